@@ -1,0 +1,4 @@
+pub mod Check
+pub mod Checks
+pub mod ClearViews
+pub mod Refusals

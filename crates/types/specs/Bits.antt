@@ -1,0 +1,21 @@
+-- Sets of bits held in a number.
+use Prim.Native.Nat.{ℕ}
+use mathlib.Core.Bool.{Bool, not, cond}
+use lib.Bits.{bitAnd, bitXor}
+use lib.Dec.{eqb}
+
+-- the set holds each of these bits
+abbrev pub contains : ℕ → ℕ → Bool
+contains set bits = eqb (bitAnd set bits) bits
+
+-- the set holds one of these bits at least
+abbrev pub intersects : ℕ → ℕ → Bool
+intersects set bits = not (eqb (bitAnd set bits) 0)
+
+-- the bits of the set that are none of these
+abbrev pub difference : ℕ → ℕ → ℕ
+difference set bits = bitXor set (bitAnd set bits)
+
+-- these bits where the condition holds, else none
+abbrev pub bitsIf : Bool → ℕ → ℕ
+bitsIf condition bits = cond condition bits 0

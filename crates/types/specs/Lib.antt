@@ -1,0 +1,11 @@
+pub mod Aspect
+pub mod Bits
+pub mod Dimension
+pub mod Extent
+pub mod Features
+pub mod Format
+pub mod Formats
+pub mod Row
+pub mod Samples
+pub mod Usage
+pub mod Uses

@@ -1,0 +1,31 @@
+// Sets of bits, the form in which usages, features, flags and aspects are held.
+ghost use mathlib.Core.Path.{_≡_};
+ghost use Rattle.types.specs.Bits.{contains as containsAll, intersects as meets, difference as without, bitsIf};
+
+// Whether the set holds each of these bits.
+pub fn contains(set: u32, bits: u32) -> bool
+    ensures { λ r. ⌜ r ≡ containsAll set bits ⌝ }
+{
+    set & bits == bits
+}
+
+// Whether the set holds one of these bits at least.
+pub fn intersects(set: u32, bits: u32) -> bool
+    ensures { λ r. ⌜ r ≡ meets set bits ⌝ }
+{
+    set & bits != 0
+}
+
+// The set without these bits.
+pub fn difference(set: u32, bits: u32) -> u32
+    ensures { λ r. ⌜ r ≡ without set bits ⌝ }
+{
+    set ^ (set & bits)
+}
+
+// These bits where the condition holds, and none where it does not.
+pub fn bits_if(condition: bool, bits: u32) -> u32
+    ensures { λ r. ⌜ r ≡ bitsIf condition bits ⌝ }
+{
+    if condition { bits } else { 0 }
+}
