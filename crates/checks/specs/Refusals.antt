@@ -1,7 +1,10 @@
 -- What the container is told of a refusal: its number, and the values that it carries.
 use Prim.Native.Nat.{ℕ}
-use mathlib.Core.Bool.{Bool, true, false}
+use mathlib.Core.Bool.{Bool, true, false, _&&_}
 use mathlib.Core.List.{List, [], _∷_}
+use lib.Dec.{leb}
+use Rattle.std.specs.declared.result.Result.{Result}
+use Rattle.std.specs.declared.result.Result.the-variants.{Ok, Err}
 use Rattle.checks.specs.declared.error.CreateTextureError.{CreateTextureError}
 use Rattle.checks.specs.declared.error.CreateTextureError.the-variants.{InvalidUsage, InvalidDimension, InvalidDepthDimension, InvalidDimensionUsages, InvalidCompressedDimension, MissingFeatures, InvalidMipLevelCount, InvalidTransientTextureUsage, InvalidTransientTextureMipLevelCount, InvalidTransientTextureLayerCount, InvalidTransientTextureViewFormats, InvalidMultisampledStorageBinding, MultisampledNotRenderAttachment, InvalidMultisampledFormat, InvalidSampleCount, InvalidFormatUsages, InvalidViewFormat, MissingDownlevelFlags}
 use Rattle.checks.specs.declared.error.TextureDimensionError.{TextureDimensionError}
@@ -88,3 +91,8 @@ valuesOf (InvalidSampleCount count format supported) = count ∷ codeOf format �
 valuesOf (InvalidFormatUsages missing format allowed) = missing ∷ codeOf format ∷ yes allowed ∷ []
 valuesOf (InvalidViewFormat view format) = codeOf view ∷ codeOf format ∷ []
 valuesOf (MissingDownlevelFlags missing) = missing .0 ∷ []
+
+-- an answer that is a refusal with a number from the first to the last
+abbrev pub refusedBy : {X : Type 0} → ℕ → ℕ → Result X CreateTextureError → Bool
+refusedBy first last (Ok x) = false
+refusedBy first last (Err e) = leb first (numberOf e) && leb (numberOf e) last

@@ -1,7 +1,11 @@
 // The checks of a texture request, one group after the other: the first refusal is the answer.
+ghost use mathlib.Core.Bool.{not};
 ghost use mathlib.Core.Path.{_≡_};
+ghost use Rattle.std.specs.Orderings.{Decides};
 ghost use Rattle.checks.specs.Check.{outcome, answered};
 ghost use Rattle.checks.specs.Checks.{shapeChecks, mipChecks, formatChecks, createChecks, twinListed};
+ghost use Rattle.checks.specs.Refusals.{refusedBy};
+ghost use Rattle.checks.specs.WebGpu.{Accepts, WebGpuDevice};
 
 use crate::blocks::check_blocks;
 use crate::blocks::check_sliced_3d;
@@ -24,7 +28,8 @@ pub fn check_texture_descriptor(
     device: &Capabilities,
     desc: &TextureDescriptor,
 ) -> Result<bool, CreateTextureError>
-    ensures { λ r. ⌜ r ≡ answered (createChecks (now (device .entry)) (now (desc .entry))) (twinListed (now (desc .entry) .format) (now (now (desc .entry) .«view_formats»))) ⌝ }
+    ensures value { λ r. ⌜ r ≡ answered (createChecks (now (device .entry)) (now (desc .entry))) (twinListed (now (desc .entry) .format) (now (now (desc .entry) .«view_formats»))) ⌝ }
+    ensures webgpu { λ r. ⌜ (WebGpuDevice (now (device .entry)) → Decides (not (refusedBy 3 27 r)) (Accepts (now (device .entry)) (now (desc .entry)))) ⌝ }
 {
     check_shape(device, desc)?;
     check_mips(desc)?;

@@ -1,6 +1,7 @@
 -- The formats, by number.
 use Prim.Native.Nat.{ℕ}
 use mathlib.Core.Bool.{Bool}
+use mathlib.Core.List.{List, [], _∷_}
 use lib.Dec.{eqb}
 use Rattle.types.specs.declared.format.TextureFormat.{TextureFormat}
 use Rattle.types.specs.declared.format.TextureFormat.the-variants.{R8Unorm, Rg8Unorm, Rgba8Unorm, Rgba8UnormSrgb, Bgra8Unorm, Bgra8UnormSrgb, R32Uint, R32Float, Rgba16Float, Rgba32Float, Depth16Unorm, Depth24Plus, Depth32Float, Stencil8, Depth24PlusStencil8, Depth32FloatStencil8, Bc1RgbaUnorm, Bc1RgbaUnormSrgb, EacR11Unorm, Astc8x5Unorm, Astc8x5UnormSrgb, NV12}
@@ -28,6 +29,33 @@ codeOf EacR11Unorm = 19
 codeOf Astc8x5Unorm = 20
 codeOf Astc8x5UnormSrgb = 21
 codeOf NV12 = 22
+
+-- every format, in the order of the codes
+abbrev pub formats : List TextureFormat
+formats =
+    R8Unorm
+    ∷ Rg8Unorm
+    ∷ Rgba8Unorm
+    ∷ Rgba8UnormSrgb
+    ∷ Bgra8Unorm
+    ∷ Bgra8UnormSrgb
+    ∷ R32Uint
+    ∷ R32Float
+    ∷ Rgba16Float
+    ∷ Rgba32Float
+    ∷ Depth16Unorm
+    ∷ Depth24Plus
+    ∷ Depth32Float
+    ∷ Stencil8
+    ∷ Depth24PlusStencil8
+    ∷ Depth32FloatStencil8
+    ∷ Bc1RgbaUnorm
+    ∷ Bc1RgbaUnormSrgb
+    ∷ EacR11Unorm
+    ∷ Astc8x5Unorm
+    ∷ Astc8x5UnormSrgb
+    ∷ NV12
+    ∷ []
 
 abbrev pub sameFormat : TextureFormat → TextureFormat → Bool
 sameFormat a b = eqb (codeOf a) (codeOf b)

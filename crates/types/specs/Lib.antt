@@ -5,6 +5,7 @@ pub mod Extent
 pub mod Features
 pub mod Format
 pub mod Formats
+pub mod Laws
 pub mod Row
 pub mod Samples
 pub mod Usage

@@ -1,5 +1,6 @@
 // The table of formats, one row for each, in the order of the formats' codes.
 ghost use mathlib.Core.Path.{_≡_};
+ghost use Rattle.types.specs.Laws.{RowLaw};
 ghost use Rattle.types.specs.Row.{rowOf};
 
 use crate::aspect::FormatAspects;
@@ -284,7 +285,8 @@ const FORMATS: [FormatRow; 22] = [
 
 impl TextureFormat {
     pub fn row(self) -> &'static FormatRow
-        ensures { λ r. ⌜ now r ≡ rowOf self ⌝ }
+        ensures value { λ r. ⌜ now r ≡ rowOf self ⌝ }
+        ensures law { λ _. ⌜ RowLaw self ⌝ }
     {
         &FORMATS[self.code() as usize - 1]
     }

@@ -1,31 +1,8 @@
-use mathlib.Core.List.{List, _++_, map}
+use mathlib.Core.List.{map}
+use Rattle.checks.proofs.Groups.{usages, sizes, after-usage, after-size, after-dimension, after-blocks}
 use Rattle.checks.proofs.Joins.{broke, broke-size, went-on, lifted-ok}
 use Rattle.checks.proofs.texture.check_shape.Needs as need
-use Rattle.checks.specs.Check.{Check}
-use Rattle.checks.specs.Checks.{usageChecks, sizeChecks, asDimension, dimensionChecks, blockChecks, slicedChecks}
-use Rattle.checks.specs.declared.error.CreateTextureError.{CreateTextureError}
-use Rattle.checks.specs.declared.error.TextureDimensionError.{TextureDimensionError}
-use Rattle.types.specs.declared.capabilities.Capabilities.{Capabilities}
-use Rattle.types.specs.declared.descriptor.TextureDescriptor.{TextureDescriptor}
-
--- the groups, and what comes after each
-abbrev usages : TextureDescriptor → List (Check CreateTextureError)
-usages d = usageChecks (d .usage)
-
-abbrev sizes : Capabilities → TextureDescriptor → List (Check TextureDimensionError)
-sizes device d = sizeChecks (d .dimension) (d .size) (d .«sample_count») (device .limits)
-
-abbrev after-blocks : Capabilities → TextureDescriptor → List (Check CreateTextureError)
-after-blocks device d = slicedChecks (device .features) d
-
-abbrev after-dimension : Capabilities → TextureDescriptor → List (Check CreateTextureError)
-after-dimension device d = blockChecks d ++ after-blocks device d
-
-abbrev after-size : Capabilities → TextureDescriptor → List (Check CreateTextureError)
-after-size device d = dimensionChecks d ++ after-dimension device d
-
-abbrev after-usage : Capabilities → TextureDescriptor → List (Check CreateTextureError)
-after-usage device d = map asDimension (sizes device d) ++ after-size device d
+use Rattle.checks.specs.Checks.{asDimension, dimensionChecks, blockChecks}
 
 pub returns-in-Break-check-usage : need.returns-in-Break-check-usage
 returns-in-Break-check-usage c =
