@@ -60,7 +60,8 @@ module _ (v : Capabilities) (d : TextureDescriptor) where
 
   pub decided : (r : Result Bool CreateTextureError) → r ≡ answered (createChecks v d) listed
       → WebGpuDevice v → Decides (not (refusedBy 3 27 r)) (Accepts v d)
-  decided r e w =
-      (λ h. accepts v d w (all-pass (createChecks v d) (passed (outcome (createChecks v d)) (ap (λ (x : Result Bool CreateTextureError). not (refusedBy 3 27 x)) (sym e) ∙ h))),
-      λ a. ap (λ (x : Result Bool CreateTextureError). not (refusedBy 3 27 x)) e
-          ∙ unrefused (outcome (createChecks v d)) (from-all (createChecks v d) (checks-pass v d a w)))
+  decided r e w = (
+    λ h. accepts v d w (all-pass (createChecks v d) (passed (outcome (createChecks v d)) (ap (λ (x : Result Bool CreateTextureError). not (refusedBy 3 27 x)) (sym e) ∙ h))),
+    λ a. ap (λ (x : Result Bool CreateTextureError). not (refusedBy 3 27 x)) e
+        ∙ unrefused (outcome (createChecks v d)) (from-all (createChecks v d) (checks-pass v d a w)),
+  )

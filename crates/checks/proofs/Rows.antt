@@ -41,9 +41,10 @@ below (suc n) p = p n && below n p
 below-at : (n : ℕ) (p : ℕ → Bool) → below n p ≡ true → (k : ℕ) → k < n → p k ≡ true
 below-at zero p h k l = absurd (not-suc-le-zero l)
 below-at (suc n) p h k l =
-    elim (cases-lt k n)
-    [ inl less ↦ below-at n p (and-parts (p n) (below n p) h .1) k less
-    | inr more ↦ (let e : n ≡ k = omega arith in subst (λ (m : ℕ). p m ≡ true) e (and-parts (p n) (below n p) h .0)) ]
+    elim (cases-lt k n) [
+      | inl less ↦ below-at n p (and-parts (p n) (below n p) h .1) k less
+      | inr more ↦ (let e : n ≡ k = omega arith in subst (λ (m : ℕ). p m ≡ true) e (and-parts (p n) (below n p) h .0))
+    ]
 
 abbrev allowed : TextureFormat → ℕ
 allowed f = rowOf f .guaranteed .«allowed_usages»
@@ -114,10 +115,10 @@ module _ (f : TextureFormat) (u : ℕ) where
     allowed-if-able h t =
         eqb-true _ _
         (modus (not (isPlanar f) && (able f u && imp (contains u TRANSIENT-ATTACHMENT) (eqb u 48))) (eqb (difference u (allowed f)) 0)
-            (usage f u l 1 (lit< tt))
-            (and-from (not (isPlanar f)) (able f u && imp (contains u TRANSIENT-ATTACHMENT) (eqb u 48)) (not-from-false (isPlanar f) p)
-                (and-from (able f u) (imp (contains u TRANSIENT-ATTACHMENT) (eqb u 48)) h
-                    (imp-from (contains u TRANSIENT-ATTACHMENT) (eqb u 48) (λ k. eq-eqb u 48 (t k))))))
+        (usage f u l 1 (lit< tt))
+        (and-from (not (isPlanar f)) (able f u && imp (contains u TRANSIENT-ATTACHMENT) (eqb u 48)) (not-from-false (isPlanar f) p)
+        (and-from (able f u) (imp (contains u TRANSIENT-ATTACHMENT) (eqb u 48)) h
+        (imp-from (contains u TRANSIENT-ATTACHMENT) (eqb u 48) (λ k. eq-eqb u 48 (t k))))))
 
 -- every usage of WebGPU is known
 known-test : below 64 (λ u. eqb (difference u ALL-USAGES) 0) ≡ true

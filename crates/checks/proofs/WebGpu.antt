@@ -93,7 +93,7 @@ module _ (v : Capabilities) (d : TextureDescriptor) where
   non-planar w e =
       false-from (isPlanar (d .format))
       (λ p. clash (contains (v .features) NV12-FORMAT)
-          (subst (λ (n : ℕ). contains (v .features) n ≡ true) (planar-needs (d .format) p) e) (w .no-nv12))
+      (subst (λ (n : ℕ). contains (v .features) n ≡ true) (planar-needs (d .format) p) e) (w .no-nv12))
 
   own-usages : isPlanar (d .format) ≡ false → allowedUsages (v .features) (d .format) ≡ rowOf (d .format) .guaranteed .«allowed_usages»
   own-usages p = cond-false (isPlanar (d .format)) _ _ p
@@ -133,29 +133,29 @@ module _ (v : Capabilities) (d : TextureDescriptor) where
       → (is1D dim && isCompressed (d .format)) ≡ false → Slices dim → DimensionRules v d dim
   rules-from D1 s depth-stencil compressed sliced =
       record {
-          width-limit = ltb-false _ _ (s .1 .0);
-          one-row = (let l : 0 < height d = positive _ (s .1 .1 .0) in let m : height d ≤ 1 = ltb-false _ _ (s .1 .1 .1 .0) in omega (arith, l, m));
-          one-slice = (let l : 0 < depth d = positive _ (s .1 .1 .1 .1 .0) in let m : depth d ≤ 1 = ltb-false _ _ (s .1 .1 .1 .1 .1 .0) in omega (arith, l, m));
-          one-sample = one-of (samples d) (not (eqb (ones (samples d)) 1)) (s .1 .1 .1 .1 .1 .1 .0);
-          not-compressed = compressed;
-          no-depth-stencil = depth-stencil
+        width-limit = ltb-false _ _ (s .1 .0);
+        one-row = (let l : 0 < height d = positive _ (s .1 .1 .0) in let m : height d ≤ 1 = ltb-false _ _ (s .1 .1 .1 .0) in omega (arith, l, m));
+        one-slice = (let l : 0 < depth d = positive _ (s .1 .1 .1 .1 .0) in let m : depth d ≤ 1 = ltb-false _ _ (s .1 .1 .1 .1 .1 .0) in omega (arith, l, m));
+        one-sample = one-of (samples d) (not (eqb (ones (samples d)) 1)) (s .1 .1 .1 .1 .1 .1 .0);
+        not-compressed = compressed;
+        no-depth-stencil = depth-stencil;
       }
   rules-from D2 s depth-stencil compressed sliced =
       record {
-          width-limit = ltb-false _ _ (s .1 .0);
-          height-limit = ltb-false _ _ (s .1 .1 .1 .0);
-          layer-limit = ltb-false _ _ (s .1 .1 .1 .1 .1 .0)
+        width-limit = ltb-false _ _ (s .1 .0);
+        height-limit = ltb-false _ _ (s .1 .1 .1 .0);
+        layer-limit = ltb-false _ _ (s .1 .1 .1 .1 .1 .0);
       }
   rules-from D3 s depth-stencil compressed sliced =
       record {
-          width-limit = ltb-false _ _ (s .1 .0);
-          height-limit = ltb-false _ _ (s .1 .1 .1 .0);
-          depth-limit = ltb-false _ _ (s .1 .1 .1 .1 .1 .0);
-          one-sample = one-of (samples d) (not (eqb (ones (samples d)) 1)) (s .1 .1 .1 .1 .1 .1 .0);
-          no-depth-stencil = depth-stencil;
-          compressed =
-              slices (isCompressed (d .format)) (isBcn (d .format)) (isAstc (d .format)) (contains (v .features) BC-SLICED-3D)
-              (contains (v .features) ASTC-SLICED-3D) (sliced .0) (sliced .1) (sliced .2)
+        width-limit = ltb-false _ _ (s .1 .0);
+        height-limit = ltb-false _ _ (s .1 .1 .1 .0);
+        depth-limit = ltb-false _ _ (s .1 .1 .1 .1 .1 .0);
+        one-sample = one-of (samples d) (not (eqb (ones (samples d)) 1)) (s .1 .1 .1 .1 .1 .1 .0);
+        no-depth-stencil = depth-stencil;
+        compressed =
+            slices (isCompressed (d .format)) (isBcn (d .format)) (isAstc (d .format)) (contains (v .features) BC-SLICED-3D)
+            (contains (v .features) ASTC-SLICED-3D) (sliced .0) (sliced .1) (sliced .2);
       }
 
   -- the largest side is within the limits
@@ -183,9 +183,10 @@ module _ (v : Capabilities) (d : TextureDescriptor) where
 
   listed : (view : TextureFormat) → (not (sameFormat view (d .format)) && not (isTwin (d .format) view)) ≡ false → Compatible (d .format) view
   listed view h =
-      elim (cases-bool (sameFormat view (d .format)))
-      [ inl same ↦ inl (same-format view (d .format) same)
-      | inr other ↦ inr (is-this (twinOf (d .format)) view (must (not (sameFormat view (d .format))) (isTwin (d .format) view) h (not-from-false _ other))) ]
+      elim (cases-bool (sameFormat view (d .format))) [
+        | inl same ↦ inl (same-format view (d .format) same)
+        | inr other ↦ inr (is-this (twinOf (d .format)) view (must (not (sameFormat view (d .format))) (isTwin (d .format) view) h (not-from-false _ other)))
+      ]
 
   all-listed : (vs : List TextureFormat) → All Passes (eachViewFormat (d .format) vs) → All (Compatible (d .format)) vs
   all-listed [] h = tt
@@ -290,50 +291,51 @@ module _ (v : Capabilities) (d : TextureDescriptor) where
     multisampled l =
         let m : isMultisampled d ≡ true = lt-ltb 1 (samples d) l in
         record {
-            one-level = eqb-true _ _ (must (isMultisampled d) (eqb (levels d) 1) (smooth .0) m);
-            one-layer =
-                eqb-true _ _
-                (not-false _ (and-but (not (eqb (depth d) 1)) (contains (v .features) MULTISAMPLE-ARRAY)
-                    (mustnt (isMultisampled d) (not (eqb (depth d) 1) && not (contains (v .features) MULTISAMPLE-ARRAY)) (smooth .1 .0) m)
-                    (w .no-multisample-array)));
-            no-storage = mustnt (isMultisampled d) (contains (d .usage) STORAGE-BINDING) (smooth .1 .1 .0) m;
-            attachment = must (isMultisampled d) (contains (d .usage) RENDER-ATTACHMENT) (smooth .1 .1 .1 .0) m;
-            format = four l .1
+          one-level = eqb-true _ _ (must (isMultisampled d) (eqb (levels d) 1) (smooth .0) m);
+          one-layer =
+              eqb-true _ _
+              (not-false _ (and-but (not (eqb (depth d) 1)) (contains (v .features) MULTISAMPLE-ARRAY)
+              (mustnt (isMultisampled d) (not (eqb (depth d) 1) && not (contains (v .features) MULTISAMPLE-ARRAY)) (smooth .1 .0) m)
+              (w .no-multisample-array)));
+          no-storage = mustnt (isMultisampled d) (contains (d .usage) STORAGE-BINDING) (smooth .1 .1 .0) m;
+          attachment = must (isMultisampled d) (contains (d .usage) RENDER-ATTACHMENT) (smooth .1 .1 .1 .0) m;
+          format = four l .1;
         }
 
     transient : Has d TRANSIENT-ATTACHMENT → TransientRules d
     transient t =
         record {
-            usage = eqb-true _ _ (must (isTransient d) (eqb (d .usage) 48) (passing .0) t);
-            two-dimensional = not-false _ (mustnt (contains (d .usage) TRANSIENT-ATTACHMENT) (not (is2D (d .dimension))) (swapped (not (is2D (d .dimension))) (contains (d .usage) TRANSIENT-ATTACHMENT) (dims .1 .0)) t);
-            one-level = eqb-true _ _ (must (isTransient d) (eqb (levels d) 1) (passing .1 .0) t);
-            one-layer = eqb-true _ _ (must (isTransient d) (eqb (depth d) 1) (passing .1 .1 .0) t);
-            no-view-formats = empty views (must (isTransient d) (isEmpty views) (passing .1 .1 .1 .0) t)
+          usage = eqb-true _ _ (must (isTransient d) (eqb (d .usage) 48) (passing .0) t);
+          two-dimensional = not-false _ (mustnt (contains (d .usage) TRANSIENT-ATTACHMENT) (not (is2D (d .dimension))) (swapped (not (is2D (d .dimension))) (contains (d .usage) TRANSIENT-ATTACHMENT) (dims .1 .0)) t);
+          one-level = eqb-true _ _ (must (isTransient d) (eqb (levels d) 1) (passing .1 .0) t);
+          one-layer = eqb-true _ _ (must (isTransient d) (eqb (depth d) 1) (passing .1 .1 .0) t);
+          no-view-formats = empty views (must (isTransient d) (isEmpty views) (passing .1 .1 .1 .0) t);
         }
 
     pub accepts : Accepts v d
     accepts =
         record {
-            format-enabled = enabled;
-            view-formats-enabled = all-enabled enabled views (all-listed views view-formats);
-            usage-not-empty = positive _ (or-parts (eqb (d .usage) 0) (not (eqb (difference (d .usage) ALL-USAGES) 0)) (shape .0) .0);
-            usage-known = in-six-bits (d .usage) six;
-            width-positive = positive _ (sides .0);
-            height-positive = positive _ (sides .1 .1 .0);
-            depth-positive = positive _ (sides .1 .1 .1 .1 .0);
-            levels-positive = positive _ (level-parts .0);
-            sample-count = one-or-four;
-            dimension-rules = rules;
-            whole-blocks-across = multiples .0;
-            whole-blocks-down = multiples .1;
-            multisample-rules = multisampled;
-            levels-within = levels-from w (d .dimension) rules (positive _ (sides .0)) (ltb-false _ _ (level-parts .1));
-            rendering = λ t.
-                (modus _ _ (able-both .0) t,
-                mustnt (contains (d .usage) RENDER-ATTACHMENT) (is1D (d .dimension)) (swapped (is1D (d .dimension)) (contains (d .usage) RENDER-ATTACHMENT) (dims .1 .1 .1 .0)) t);
-            storage = λ t. modus _ _ (able-both .1) t;
-            transient-rules = transient;
-            view-formats-compatible = all-listed views view-formats
+          format-enabled = enabled;
+          view-formats-enabled = all-enabled enabled views (all-listed views view-formats);
+          usage-not-empty = positive _ (or-parts (eqb (d .usage) 0) (not (eqb (difference (d .usage) ALL-USAGES) 0)) (shape .0) .0);
+          usage-known = in-six-bits (d .usage) six;
+          width-positive = positive _ (sides .0);
+          height-positive = positive _ (sides .1 .1 .0);
+          depth-positive = positive _ (sides .1 .1 .1 .1 .0);
+          levels-positive = positive _ (level-parts .0);
+          sample-count = one-or-four;
+          dimension-rules = rules;
+          whole-blocks-across = multiples .0;
+          whole-blocks-down = multiples .1;
+          multisample-rules = multisampled;
+          levels-within = levels-from w (d .dimension) rules (positive _ (sides .0)) (ltb-false _ _ (level-parts .1));
+          rendering = λ t. (
+            modus _ _ (able-both .0) t,
+            mustnt (contains (d .usage) RENDER-ATTACHMENT) (is1D (d .dimension)) (swapped (is1D (d .dimension)) (contains (d .usage) RENDER-ATTACHMENT) (dims .1 .1 .1 .0)) t,
+          );
+          storage = λ t. modus _ _ (able-both .1) t;
+          transient-rules = transient;
+          view-formats-compatible = all-listed views view-formats;
         }
 
   -- ---- from WebGPU's conditions to the checks
@@ -360,20 +362,52 @@ module _ (v : Capabilities) (d : TextureDescriptor) where
     either-passes (inr e) = subst (λ (s : ℕ). sampleTest D2 s ≡ false) (sym e) four-samples-pass
 
     sides-pass : (dim : TextureDimension) → DimensionRules v d dim → SizesPass dim
-    sides-pass D1 r =
-        (not-zero _ (a .width-positive), (le-ltb _ _ (r .width-limit), (not-zero _ (a .height-positive), (le-ltb 1 (height d) (omega (arith, r .one-row)),
-        (not-zero _ (a .depth-positive), (le-ltb 1 (depth d) (omega (arith, r .one-slice)), (one-passes D1 (r .one-sample), tt)))))))
-    sides-pass D2 r =
-        (not-zero _ (a .width-positive), (le-ltb _ _ (r .width-limit), (not-zero _ (a .height-positive), (le-ltb _ _ (r .height-limit),
-        (not-zero _ (a .depth-positive), (le-ltb _ _ (r .layer-limit), (either-passes (a .sample-count), tt)))))))
-    sides-pass D3 r =
-        (not-zero _ (a .width-positive), (le-ltb _ _ (r .width-limit), (not-zero _ (a .height-positive), (le-ltb _ _ (r .height-limit),
-        (not-zero _ (a .depth-positive), (le-ltb _ _ (r .depth-limit), (one-passes D3 (r .one-sample), tt)))))))
+    sides-pass D1 r = (
+      not-zero _ (a .width-positive),
+      (
+        le-ltb _ _ (r .width-limit),
+        (
+          not-zero _ (a .height-positive),
+          (
+            le-ltb 1 (height d) (omega (arith, r .one-row)),
+            (not-zero _ (a .depth-positive), (le-ltb 1 (depth d) (omega (arith, r .one-slice)), (one-passes D1 (r .one-sample), tt))),
+          ),
+        ),
+      ),
+    )
+    sides-pass D2 r = (
+      not-zero _ (a .width-positive),
+      (
+        le-ltb _ _ (r .width-limit),
+        (
+          not-zero _ (a .height-positive),
+          (
+            le-ltb _ _ (r .height-limit),
+            (not-zero _ (a .depth-positive), (le-ltb _ _ (r .layer-limit), (either-passes (a .sample-count), tt))),
+          ),
+        ),
+      ),
+    )
+    sides-pass D3 r = (
+      not-zero _ (a .width-positive),
+      (
+        le-ltb _ _ (r .width-limit),
+        (
+          not-zero _ (a .height-positive),
+          (
+            le-ltb _ _ (r .height-limit),
+            (not-zero _ (a .depth-positive), (le-ltb _ _ (r .depth-limit), (one-passes D3 (r .one-sample), tt))),
+          ),
+        ),
+      ),
+    )
 
     usage-passes : All Passes (usages d)
-    usage-passes =
-        (or-from (eqb (d .usage) 0) (not (eqb (difference (d .usage) ALL-USAGES) 0)) (not-zero _ (a .usage-not-empty))
-            (not-from-true _ (eq-eqb _ _ (known (d .usage) (six-bits (d .usage) (a .usage-known))))), tt)
+    usage-passes = (
+      or-from (eqb (d .usage) 0) (not (eqb (difference (d .usage) ALL-USAGES) 0)) (not-zero _ (a .usage-not-empty))
+          (not-from-true _ (eq-eqb _ _ (known (d .usage) (six-bits (d .usage) (a .usage-known))))),
+      tt,
+    )
 
     depth-passes : (dim : TextureDimension) → DimensionRules v d dim → (not (is2D dim) && isDepthStencil (d .format)) ≡ false
     depth-passes D1 r = r .no-depth-stencil
@@ -386,20 +420,30 @@ module _ (v : Capabilities) (d : TextureDescriptor) where
     packed-passes D3 r = refl
 
     dimension-passes : All Passes (dimensionChecks d)
-    dimension-passes =
-        (depth-passes (d .dimension) (a .dimension-rules),
-        (mustnt-from (not (is2D (d .dimension))) (contains (d .usage) TRANSIENT-ATTACHMENT)
+    dimension-passes = (
+      depth-passes (d .dimension) (a .dimension-rules),
+      (
+        mustnt-from (not (is2D (d .dimension))) (contains (d .usage) TRANSIENT-ATTACHMENT)
             (λ p. false-from _ (λ t. clash (is2D (d .dimension)) (a .transient-rules t .two-dimensional) (not-true _ p))),
-        (packed-passes (d .dimension) (a .dimension-rules),
-        (mustnt-from (is1D (d .dimension)) (contains (d .usage) RENDER-ATTACHMENT)
-            (λ p. false-from _ (λ t. clash (is1D (d .dimension)) p (a .rendering t .1))),
-        tt))))
+        (
+          packed-passes (d .dimension) (a .dimension-rules),
+          (
+            mustnt-from (is1D (d .dimension)) (contains (d .usage) RENDER-ATTACHMENT)
+                (λ p. false-from _ (λ t. clash (is1D (d .dimension)) p (a .rendering t .1))),
+            tt,
+          ),
+        ),
+      ),
+    )
 
     blocks-pass : All Passes (blockChecks d)
-    blocks-pass =
-        (must-from (isCompressed (d .format)) (multipleOf (width d) (blockDimensions (d .format) .0)) (λ _. eq-eqb _ _ (a .whole-blocks-across)),
-        (must-from (isCompressed (d .format)) (multipleOf (height d) (blockDimensions (d .format) .1)) (λ _. eq-eqb _ _ (a .whole-blocks-down)),
-        tt))
+    blocks-pass = (
+      must-from (isCompressed (d .format)) (multipleOf (width d) (blockDimensions (d .format) .0)) (λ _. eq-eqb _ _ (a .whole-blocks-across)),
+      (
+        must-from (isCompressed (d .format)) (multipleOf (height d) (blockDimensions (d .format) .1)) (λ _. eq-eqb _ _ (a .whole-blocks-down)),
+        tt,
+      ),
+    )
 
     in-3d : (dim : TextureDimension) → is3D dim ≡ true → DimensionRules v d dim → Rules3D v d
     in-3d D1 p r = absurd (false≢true p)
@@ -428,11 +472,16 @@ module _ (v : Capabilities) (d : TextureDescriptor) where
     family-passes (inr p) = must-from _ _ (λ _. p .0)
 
     sliced-passes : All Passes (slicedChecks (v .features) d)
-    sliced-passes =
-        (mustnt-from (isSliced d) _ (λ p. bc-passes (sliceable p)),
-        (mustnt-from (isSliced d) _ (λ p. astc-passes (sliceable p)),
-        (mustnt-from (isSliced d) _ (λ p. family-passes (sliceable p)),
-        tt)))
+    sliced-passes = (
+      mustnt-from (isSliced d) _ (λ p. bc-passes (sliceable p)),
+      (
+        mustnt-from (isSliced d) _ (λ p. astc-passes (sliceable p)),
+        (
+          mustnt-from (isSliced d) _ (λ p. family-passes (sliceable p)),
+          tt,
+        ),
+      ),
+    )
 
     module _ (w : WebGpuDevice v) where
       level-bound : (dim : TextureDimension) → DimensionRules v d dim → LevelsWithin d dim → levels d ≤ maxMips (d .size) dim
@@ -446,55 +495,80 @@ module _ (v : Capabilities) (d : TextureDescriptor) where
       unplanar = non-planar w (a .format-enabled)
 
       levels-pass : All Passes (levelChecks d)
-      levels-pass =
-          (or-from (eqb (levels d) 0) (ltb (maxMips (d .size) (d .dimension)) (levels d)) (not-zero _ (a .levels-positive))
-              (le-ltb _ _ (level-bound (d .dimension) (a .dimension-rules) (a .levels-within))),
-          (not-from-true _ (eq-eqb _ _ (subst (λ (m : ℕ × ℕ). width d % m .0 ≡ 0) (sym (own-multiple unplanar)) (a .whole-blocks-across))),
-          (not-from-true _ (eq-eqb _ _ (subst (λ (m : ℕ × ℕ). height d % m .1 ≡ 0) (sym (own-multiple unplanar)) (a .whole-blocks-down))),
-          tt)))
+      levels-pass = (
+        or-from (eqb (levels d) 0) (ltb (maxMips (d .size) (d .dimension)) (levels d)) (not-zero _ (a .levels-positive))
+            (le-ltb _ _ (level-bound (d .dimension) (a .dimension-rules) (a .levels-within))),
+        (
+          not-from-true _ (eq-eqb _ _ (subst (λ (m : ℕ × ℕ). width d % m .0 ≡ 0) (sym (own-multiple unplanar)) (a .whole-blocks-across))),
+          (
+            not-from-true _ (eq-eqb _ _ (subst (λ (m : ℕ × ℕ). height d % m .1 ≡ 0) (sym (own-multiple unplanar)) (a .whole-blocks-down))),
+            tt,
+          ),
+        ),
+      )
 
       transient-passes : All Passes (transientChecks d)
-      transient-passes =
-          (must-from (isTransient d) (eqb (d .usage) 48) (λ t. eq-eqb _ _ (a .transient-rules t .usage)),
-          (must-from (isTransient d) (eqb (levels d) 1) (λ t. eq-eqb _ _ (a .transient-rules t .one-level)),
-          (must-from (isTransient d) (eqb (depth d) 1) (λ t. eq-eqb _ _ (a .transient-rules t .one-layer)),
-          (must-from (isTransient d) (isEmpty views) (λ t. ap isEmpty (a .transient-rules t .no-view-formats)),
-          tt))))
+      transient-passes = (
+        must-from (isTransient d) (eqb (d .usage) 48) (λ t. eq-eqb _ _ (a .transient-rules t .usage)),
+        (
+          must-from (isTransient d) (eqb (levels d) 1) (λ t. eq-eqb _ _ (a .transient-rules t .one-level)),
+          (
+            must-from (isTransient d) (eqb (depth d) 1) (λ t. eq-eqb _ _ (a .transient-rules t .one-layer)),
+            (
+              must-from (isTransient d) (isEmpty views) (λ t. ap isEmpty (a .transient-rules t .no-view-formats)),
+              tt,
+            ),
+          ),
+        ),
+      )
 
       multisample-rules-at : isMultisampled d ≡ true → MultisampleRules v d
       multisample-rules-at m = a .multisample-rules (ltb-true 1 (samples d) m)
 
       four-supported : isMultisampled d ≡ true → sampleCountSupported (rowOf (d .format) .guaranteed .flags) (samples d) ≡ true
       four-supported m =
-          elim (a .sample-count)
-          [ inl one ↦ absurd (omega (arith, one, ltb-true 1 (samples d) m))
-          | inr four ↦ subst (λ (s : ℕ). sampleCountSupported (rowOf (d .format) .guaranteed .flags) s ≡ true) (sym four) (multisample-rules-at m .format) ]
+          elim (a .sample-count) [
+            | inl one ↦ absurd (omega (arith, one, ltb-true 1 (samples d) m))
+            | inr four ↦ subst (λ (s : ℕ). sampleCountSupported (rowOf (d .format) .guaranteed .flags) s ≡ true) (sym four) (multisample-rules-at m .format)
+          ]
 
       multisample-passes : All Passes (multisampleChecks (v .features) (rowOf (d .format) .guaranteed .flags) d)
-      multisample-passes =
-          (must-from (isMultisampled d) (eqb (levels d) 1) (λ m. eq-eqb _ _ (multisample-rules-at m .one-level)),
-          (mustnt-from (isMultisampled d) (not (eqb (depth d) 1) && not (contains (v .features) MULTISAMPLE-ARRAY))
+      multisample-passes = (
+        must-from (isMultisampled d) (eqb (levels d) 1) (λ m. eq-eqb _ _ (multisample-rules-at m .one-level)),
+        (
+          mustnt-from (isMultisampled d) (not (eqb (depth d) 1) && not (contains (v .features) MULTISAMPLE-ARRAY))
               (λ m. and-left _ _ (not-from-true _ (eq-eqb _ _ (multisample-rules-at m .one-layer)))),
-          (mustnt-from (isMultisampled d) (contains (d .usage) STORAGE-BINDING) (λ m. multisample-rules-at m .no-storage),
-          (must-from (isMultisampled d) (contains (d .usage) RENDER-ATTACHMENT) (λ m. multisample-rules-at m .attachment),
-          (must-from (isMultisampled d) (intersects (rowOf (d .format) .guaranteed .flags) MULTISAMPLED) (λ m. four-multisampled (d .format) (multisample-rules-at m .format)),
-          (must-from (isMultisampled d) (sampleCountSupported (rowOf (d .format) .guaranteed .flags) (samples d)) four-supported,
-          tt))))))
+          (
+            mustnt-from (isMultisampled d) (contains (d .usage) STORAGE-BINDING) (λ m. multisample-rules-at m .no-storage),
+            (
+              must-from (isMultisampled d) (contains (d .usage) RENDER-ATTACHMENT) (λ m. multisample-rules-at m .attachment),
+              (
+                must-from (isMultisampled d) (intersects (rowOf (d .format) .guaranteed .flags) MULTISAMPLED) (λ m. four-multisampled (d .format) (multisample-rules-at m .format)),
+                (
+                  must-from (isMultisampled d) (sampleCountSupported (rowOf (d .format) .guaranteed .flags) (samples d)) four-supported,
+                  tt,
+                ),
+              ),
+            ),
+          ),
+        ),
+      )
 
       usage-allowed : difference (d .usage) (allowedUsages (v .features) (d .format)) ≡ 0
       usage-allowed =
           subst (λ (n : ℕ). difference (d .usage) n ≡ 0) (sym (own-usages unplanar))
           (allowed-if-able (d .format) (d .usage) (six-bits (d .usage) (a .usage-known)) unplanar
-              (and-from (imp (contains (d .usage) RENDER-ATTACHMENT) (contains (rowOf (d .format) .guaranteed .«allowed_usages») RENDER-ATTACHMENT))
-                  (imp (contains (d .usage) STORAGE-BINDING) (intersects (rowOf (d .format) .guaranteed .flags) 112))
-                  (imp-from _ _ (λ t. a .rendering t .0)) (imp-from _ _ (a .storage)))
-              (λ t. a .transient-rules t .usage))
+          (and-from (imp (contains (d .usage) RENDER-ATTACHMENT) (contains (rowOf (d .format) .guaranteed .«allowed_usages») RENDER-ATTACHMENT))
+          (imp (contains (d .usage) STORAGE-BINDING) (intersects (rowOf (d .format) .guaranteed .flags) 112))
+          (imp-from _ _ (λ t. a .rendering t .0)) (imp-from _ _ (a .storage)))
+          (λ t. a .transient-rules t .usage))
 
       format-passes : All Passes (formatChecks (v .features) d)
-      format-passes =
-          (not-from-true _ (a .format-enabled),
-          both (multisampleChecks (v .features) (rowOf (d .format) .guaranteed .flags) d) (formatUsageChecks (v .features) d) multisample-passes
-              (not-from-true _ (eq-eqb _ _ usage-allowed), tt))
+      format-passes = (
+        not-from-true _ (a .format-enabled),
+        both (multisampleChecks (v .features) (rowOf (d .format) .guaranteed .flags) d) (formatUsageChecks (v .features) d) multisample-passes
+            (not-from-true _ (eq-eqb _ _ usage-allowed), tt),
+      )
 
       this-is : (o : Option TextureFormat) (g : TextureFormat) → o ≡ Some g → isThis o g ≡ true
       this-is o g e = subst (λ (p : Option TextureFormat). isThis p g ≡ true) (sym e) (format-same g g refl)
@@ -516,7 +590,7 @@ module _ (v : Capabilities) (d : TextureDescriptor) where
       checks-pass =
           both (shapeChecks v d) (after-shape v d)
           (both (usages d) (after-usage v d) usage-passes
-              (both (map asDimension (sizes v d)) (after-size v d) (sides-pass (d .dimension) (a .dimension-rules))
-                  (both (dimensionChecks d) (after-dimension v d) dimension-passes (both (blockChecks d) (after-blocks v d) blocks-pass sliced-passes))))
+          (both (map asDimension (sizes v d)) (after-size v d) (sides-pass (d .dimension) (a .dimension-rules))
+          (both (dimensionChecks d) (after-dimension v d) dimension-passes (both (blockChecks d) (after-blocks v d) blocks-pass sliced-passes))))
           (both (mipChecks d) (after-mips v d) (both (levelChecks d) (transientChecks d) levels-pass transient-passes)
-              (both (formatChecks (v .features) d) (after-format v d) format-passes view-formats-pass))
+          (both (formatChecks (v .features) d) (after-format v d) format-passes view-formats-pass))

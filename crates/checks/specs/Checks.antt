@@ -92,9 +92,9 @@ multipleOf n of = eqb (n % of) 0
 abbrev pub blockChecks : TextureDescriptor → List (Check CreateTextureError)
 blockChecks d =
     refuse (isCompressed (d .format) && not (multipleOf (d .size .width) (blockDimensions (d .format) .0)))
-        (InvalidDimension (NotMultipleOfBlockWidth (d .size .width) (blockDimensions (d .format) .0) (d .format)))
+    (InvalidDimension (NotMultipleOfBlockWidth (d .size .width) (blockDimensions (d .format) .0) (d .format)))
     ∷ refuse (isCompressed (d .format) && not (multipleOf (d .size .height) (blockDimensions (d .format) .1)))
-        (InvalidDimension (NotMultipleOfBlockHeight (d .size .height) (blockDimensions (d .format) .1) (d .format)))
+    (InvalidDimension (NotMultipleOfBlockHeight (d .size .height) (blockDimensions (d .format) .1) (d .format)))
     ∷ []
 
 -- a feature that is not on, refused for a format
@@ -124,11 +124,11 @@ levelMultiple f levels =
 abbrev pub levelChecks : TextureDescriptor → List (Check CreateTextureError)
 levelChecks d =
     refuse (eqb (d .«mip_level_count») 0 || ltb (maxMips (d .size) (d .dimension)) (d .«mip_level_count»))
-        (InvalidMipLevelCount (d .«mip_level_count») (maxMips (d .size) (d .dimension)))
+    (InvalidMipLevelCount (d .«mip_level_count») (maxMips (d .size) (d .dimension)))
     ∷ refuse (not (multipleOf (d .size .width) (levelMultiple (d .format) (d .«mip_level_count») .0)))
-        (InvalidDimension (WidthNotMultipleOf (d .size .width) (levelMultiple (d .format) (d .«mip_level_count») .0) (d .format)))
+    (InvalidDimension (WidthNotMultipleOf (d .size .width) (levelMultiple (d .format) (d .«mip_level_count») .0) (d .format)))
     ∷ refuse (not (multipleOf (d .size .height) (levelMultiple (d .format) (d .«mip_level_count») .1)))
-        (InvalidDimension (HeightNotMultipleOf (d .size .height) (levelMultiple (d .format) (d .«mip_level_count») .1) (d .format)))
+    (InvalidDimension (HeightNotMultipleOf (d .size .height) (levelMultiple (d .format) (d .«mip_level_count») .1) (d .format)))
     ∷ []
 
 -- ---- transient attachments
@@ -157,12 +157,12 @@ abbrev pub multisampleChecks : ℕ → ℕ → TextureDescriptor → List (Check
 multisampleChecks features flags d =
     refuse (isMultisampled d && not (eqb (d .«mip_level_count») 1)) (InvalidMipLevelCount (d .«mip_level_count») 1)
     ∷ refuse (isMultisampled d && (not (eqb (d .size .«depth_or_array_layers») 1) && not (contains features MULTISAMPLE-ARRAY)))
-        (InvalidDimension (MultisampledDepthOrArrayLayer (d .size .«depth_or_array_layers»)))
+    (InvalidDimension (MultisampledDepthOrArrayLayer (d .size .«depth_or_array_layers»)))
     ∷ refuse (isMultisampled d && contains (d .usage) STORAGE-BINDING) InvalidMultisampledStorageBinding
     ∷ refuse (isMultisampled d && not (contains (d .usage) RENDER-ATTACHMENT)) MultisampledNotRenderAttachment
     ∷ refuse (isMultisampled d && not (intersects flags MULTISAMPLED)) (InvalidMultisampledFormat (d .format))
     ∷ refuse (isMultisampled d && not (sampleCountSupported flags (d .«sample_count»)))
-        (InvalidSampleCount (d .«sample_count») (d .format) (supportedSampleCounts flags))
+    (InvalidSampleCount (d .«sample_count») (d .format) (supportedSampleCounts flags))
     ∷ []
 
 -- ---- the usage against the format
@@ -171,14 +171,14 @@ multisampleChecks features flags d =
 abbrev pub allowedUsages : ℕ → TextureFormat → ℕ
 allowedUsages features f =
     cond (isPlanar f)
-        (bitAnd (guaranteedFeatures R8Unorm features .«allowed_usages») (guaranteedFeatures Rg8Unorm features .«allowed_usages»))
-        (guaranteedFeatures f features .«allowed_usages»)
+    (bitAnd (guaranteedFeatures R8Unorm features .«allowed_usages») (guaranteedFeatures Rg8Unorm features .«allowed_usages»))
+    (guaranteedFeatures f features .«allowed_usages»)
 
 abbrev pub formatUsageChecks : ℕ → TextureDescriptor → List (Check CreateTextureError)
 formatUsageChecks features d =
     refuse (not (eqb (difference (d .usage) (allowedUsages features (d .format))) 0))
-        (InvalidFormatUsages (difference (d .usage) (allowedUsages features (d .format))) (d .format)
-            (eqb (difference (d .usage) (guaranteedFeatures (d .format) features .«allowed_usages»)) 0))
+    (InvalidFormatUsages (difference (d .usage) (allowedUsages features (d .format))) (d .format)
+    (eqb (difference (d .usage) (guaranteedFeatures (d .format) features .«allowed_usages»)) 0))
     ∷ []
 
 -- ---- view formats: each is the format itself or its twin

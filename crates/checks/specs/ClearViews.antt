@@ -14,5 +14,5 @@ use Rattle.types.specs.declared.descriptor.TextureDescriptor.{TextureDescriptor
 abbrev pub clearViewsNeeded : TextureDescriptor → ℕ → ℕ
 clearViewsNeeded d uses =
     cond (is2D (d .dimension) && intersects uses (bitOr COLOR-TARGET DEPTH-STENCIL-WRITE))
-        (d .«mip_level_count» * d .size .«depth_or_array_layers» * valueOr (planesOf (d .format)) 1)
-        0
+    (d .«mip_level_count» * d .size .«depth_or_array_layers» * valueOr (planesOf (d .format)) 1)
+    0

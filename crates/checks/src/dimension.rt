@@ -2,7 +2,6 @@
 ghost use mathlib.Core.Path.{_≡_};
 ghost use Rattle.checks.specs.Check.{outcome};
 ghost use Rattle.checks.specs.Checks.{dimensionChecks};
-
 use crate::error::CreateTextureError;
 use types::bits;
 use types::descriptor::TextureDescriptor;
@@ -19,13 +18,19 @@ pub(crate) fn check_dimension(desc: &TextureDescriptor) -> Result<(), CreateText
         return Err(CreateTextureError::InvalidDepthDimension(dimension, desc.format));
     }
     if !is_2d && bits::contains(desc.usage, TextureUsages::TRANSIENT_ATTACHMENT) {
-        return Err(CreateTextureError::InvalidDimensionUsages(TextureUsages::TRANSIENT_ATTACHMENT, dimension));
+        return Err(CreateTextureError::InvalidDimensionUsages(
+            TextureUsages::TRANSIENT_ATTACHMENT,
+            dimension,
+        ));
     }
     if is_1d && desc.format.is_compressed() {
         return Err(CreateTextureError::InvalidCompressedDimension(dimension, desc.format));
     }
     if is_1d && bits::contains(desc.usage, TextureUsages::RENDER_ATTACHMENT) {
-        return Err(CreateTextureError::InvalidDimensionUsages(TextureUsages::RENDER_ATTACHMENT, dimension));
+        return Err(CreateTextureError::InvalidDimensionUsages(
+            TextureUsages::RENDER_ATTACHMENT,
+            dimension,
+        ));
     }
     Ok(())
 }

@@ -2,7 +2,6 @@
 ghost use mathlib.Core.Path.{_≡_};
 ghost use Rattle.checks.specs.Refusals.{numberOf, valuesOf, listed, sideCode, dimensionNumber, dimensionValues};
 ghost use Rattle.checks.specs.declared.error.CreateTextureError.the-variants.{InvalidDimension as Dimensional};
-
 use types::dimension::TextureDimension;
 use types::features::MissingFeatures;
 use types::format::TextureFormat;
@@ -125,20 +124,32 @@ impl TextureDimensionError {
     {
         match *self {
             TextureDimensionError::Zero(dim) => Values::One(dim.code()),
-            TextureDimensionError::LimitExceeded { dim, given, limit } => Values::Three(dim.code(), given, limit),
+            TextureDimensionError::LimitExceeded { dim, given, limit } => Values::Three(
+                dim.code(),
+                given,
+                limit,
+            ),
             TextureDimensionError::InvalidSampleCount(count) => Values::One(count),
-            TextureDimensionError::NotMultipleOfBlockWidth { width, block_width, format } => {
-                Values::Three(width, block_width, format.code())
-            }
-            TextureDimensionError::NotMultipleOfBlockHeight { height, block_height, format } => {
-                Values::Three(height, block_height, format.code())
-            }
-            TextureDimensionError::WidthNotMultipleOf { width, multiple, format } => {
-                Values::Three(width, multiple, format.code())
-            }
-            TextureDimensionError::HeightNotMultipleOf { height, multiple, format } => {
-                Values::Three(height, multiple, format.code())
-            }
+            TextureDimensionError::NotMultipleOfBlockWidth {
+                width,
+                block_width,
+                format,
+            } => { Values::Three(width, block_width, format.code()) }
+            TextureDimensionError::NotMultipleOfBlockHeight {
+                height,
+                block_height,
+                format,
+            } => { Values::Three(height, block_height, format.code()) }
+            TextureDimensionError::WidthNotMultipleOf {
+                width,
+                multiple,
+                format,
+            } => { Values::Three(width, multiple, format.code()) }
+            TextureDimensionError::HeightNotMultipleOf {
+                height,
+                multiple,
+                format,
+            } => { Values::Three(height, multiple, format.code()) }
             TextureDimensionError::MultisampledDepthOrArrayLayer(layers) => Values::One(layers),
         }
     }
@@ -178,13 +189,25 @@ impl CreateTextureError {
         match *self {
             CreateTextureError::InvalidUsage(usage) => Values::One(usage),
             CreateTextureError::InvalidDimension(error) => error.values(),
-            CreateTextureError::InvalidDepthDimension(dimension, format) => Values::Two(dimension.code(), format.code()),
-            CreateTextureError::InvalidDimensionUsages(usage, dimension) => Values::Two(usage, dimension.code()),
+            CreateTextureError::InvalidDepthDimension(dimension, format) => Values::Two(
+                dimension.code(),
+                format.code(),
+            ),
+            CreateTextureError::InvalidDimensionUsages(usage, dimension) => Values::Two(
+                usage,
+                dimension.code(),
+            ),
             CreateTextureError::InvalidCompressedDimension(dimension, format) => {
                 Values::Two(dimension.code(), format.code())
             }
-            CreateTextureError::MissingFeatures(format, missing) => Values::Two(format.code(), missing.0),
-            CreateTextureError::InvalidMipLevelCount { requested, maximum } => Values::Two(requested, maximum),
+            CreateTextureError::MissingFeatures(format, missing) => Values::Two(
+                format.code(),
+                missing.0,
+            ),
+            CreateTextureError::InvalidMipLevelCount { requested, maximum } => Values::Two(
+                requested,
+                maximum,
+            ),
             CreateTextureError::InvalidTransientTextureUsage(usage) => Values::One(usage),
             CreateTextureError::InvalidTransientTextureMipLevelCount(levels) => Values::One(levels),
             CreateTextureError::InvalidTransientTextureLayerCount(layers) => Values::One(layers),
@@ -198,7 +221,10 @@ impl CreateTextureError {
             CreateTextureError::InvalidFormatUsages(missing, format, webgpu_allows) => {
                 Values::Three(missing, format.code(), u32::from(webgpu_allows))
             }
-            CreateTextureError::InvalidViewFormat(view_format, format) => Values::Two(view_format.code(), format.code()),
+            CreateTextureError::InvalidViewFormat(view_format, format) => Values::Two(
+                view_format.code(),
+                format.code(),
+            ),
             CreateTextureError::MissingDownlevelFlags(missing) => Values::One(missing.0),
         }
     }

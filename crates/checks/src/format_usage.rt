@@ -2,13 +2,15 @@
 ghost use mathlib.Core.Path.{_≡_};
 ghost use Rattle.checks.specs.Check.{outcome};
 ghost use Rattle.checks.specs.Checks.{formatUsageChecks, allowedUsages};
-
 use crate::error::CreateTextureError;
 use types::bits;
 use types::descriptor::TextureDescriptor;
 use types::format::TextureFormat;
 
-pub(crate) fn check_format_usage(features: u32, desc: &TextureDescriptor) -> Result<(), CreateTextureError>
+pub(crate) fn check_format_usage(
+    features: u32,
+    desc: &TextureDescriptor,
+) -> Result<(), CreateTextureError>
     ensures { λ r. ⌜ r ≡ outcome (formatUsageChecks features (now (desc .entry))) ⌝ }
 {
     let missing = bits::difference(desc.usage, allowed_usages(features, desc.format));

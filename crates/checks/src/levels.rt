@@ -3,7 +3,6 @@ ghost use mathlib.Core.Path.{_≡_};
 ghost use Prim.Native.Nat.{_≤_};
 ghost use Rattle.checks.specs.Check.{outcome};
 ghost use Rattle.checks.specs.Checks.{levelChecks, levelMultiple};
-
 use crate::error::CreateTextureError;
 use crate::error::TextureDimensionError;
 use types::descriptor::TextureDescriptor;
@@ -23,12 +22,20 @@ pub(crate) fn check_levels(desc: &TextureDescriptor) -> Result<(), CreateTexture
     let (width_multiple, height_multiple) = level_multiple(format, requested);
     if !width.is_multiple_of(width_multiple) {
         let multiple = width_multiple;
-        let error = TextureDimensionError::WidthNotMultipleOf { width, multiple, format };
+        let error = TextureDimensionError::WidthNotMultipleOf {
+            width,
+            multiple,
+            format,
+        };
         return Err(CreateTextureError::InvalidDimension(error));
     }
     if !height.is_multiple_of(height_multiple) {
         let multiple = height_multiple;
-        let error = TextureDimensionError::HeightNotMultipleOf { height, multiple, format };
+        let error = TextureDimensionError::HeightNotMultipleOf {
+            height,
+            multiple,
+            format,
+        };
         return Err(CreateTextureError::InvalidDimension(error));
     }
     Ok(())

@@ -1,14 +1,13 @@
 // What a texture request is worth before the host is asked: the checks of wgpu's `create_texture_inner`, in its order.
-pub mod clear_views;
-pub mod error;
-pub mod texture;
-
 mod blocks;
+pub mod clear_views;
 mod dimension;
+pub mod error;
 mod format_usage;
 mod levels;
 mod multisampling;
 pub mod size;
+pub mod texture;
 mod transient;
 mod usage;
 mod view_formats;

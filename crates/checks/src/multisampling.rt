@@ -2,7 +2,6 @@
 ghost use mathlib.Core.Path.{_≡_};
 ghost use Rattle.checks.specs.Check.{outcome};
 ghost use Rattle.checks.specs.Checks.{multisampleChecks};
-
 use crate::error::CreateTextureError;
 use crate::error::TextureDimensionError;
 use types::bits;
@@ -13,10 +12,16 @@ use types::sample_counts::sample_count_supported;
 use types::sample_counts::supported_sample_counts;
 use types::usages::TextureUsages;
 
-const MULTISAMPLED: u32 =
-    Flags::MULTISAMPLE_X2 | Flags::MULTISAMPLE_X4 | Flags::MULTISAMPLE_X8 | Flags::MULTISAMPLE_X16;
+const MULTISAMPLED: u32 = Flags::MULTISAMPLE_X2
+    | Flags::MULTISAMPLE_X4
+    | Flags::MULTISAMPLE_X8
+    | Flags::MULTISAMPLE_X16;
 
-pub(crate) fn check_multisampling(features: u32, flags: u32, desc: &TextureDescriptor) -> Result<(), CreateTextureError>
+pub(crate) fn check_multisampling(
+    features: u32,
+    flags: u32,
+    desc: &TextureDescriptor,
+) -> Result<(), CreateTextureError>
     ensures { λ r. ⌜ r ≡ outcome (multisampleChecks features flags (now (desc .entry))) ⌝ }
 {
     let samples = desc.sample_count;
@@ -31,9 +36,9 @@ pub(crate) fn check_multisampling(features: u32, flags: u32, desc: &TextureDescr
         });
     }
     if layers != 1 && !bits::contains(features, Features::MULTISAMPLE_ARRAY) {
-        return Err(CreateTextureError::InvalidDimension(
-            TextureDimensionError::MultisampledDepthOrArrayLayer(layers),
-        ));
+        return Err(CreateTextureError::InvalidDimension(TextureDimensionError::MultisampledDepthOrArrayLayer(
+            layers,
+        )));
     }
     if bits::contains(desc.usage, TextureUsages::STORAGE_BINDING) {
         return Err(CreateTextureError::InvalidMultisampledStorageBinding);

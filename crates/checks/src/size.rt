@@ -2,7 +2,6 @@
 ghost use mathlib.Core.Path.{_≡_};
 ghost use Rattle.checks.specs.Check.{outcome};
 ghost use Rattle.checks.specs.Checks.{extentLimits, sampleLimit, axisChecks, sampleChecks, sizeChecks};
-
 use crate::error::TextureDimensionError;
 use crate::error::TextureErrorDimension;
 use types::dimension::TextureDimension;
@@ -37,7 +36,11 @@ fn sample_limit(dimension: TextureDimension) -> u32
     }
 }
 
-fn check_side(dim: TextureErrorDimension, given: u32, limit: u32) -> Result<(), TextureDimensionError>
+fn check_side(
+    dim: TextureErrorDimension,
+    given: u32,
+    limit: u32,
+) -> Result<(), TextureDimensionError>
     ensures { λ r. ⌜ r ≡ outcome (axisChecks dim given limit) ⌝ }
 {
     if given == 0 {
@@ -49,10 +52,16 @@ fn check_side(dim: TextureErrorDimension, given: u32, limit: u32) -> Result<(), 
     Ok(())
 }
 
-fn check_sample_count(dimension: TextureDimension, sample_count: u32) -> Result<(), TextureDimensionError>
+fn check_sample_count(
+    dimension: TextureDimension,
+    sample_count: u32,
+) -> Result<(), TextureDimensionError>
     ensures { λ r. ⌜ r ≡ outcome (sampleChecks dimension «sample_count») ⌝ }
 {
-    if sample_count == 0 || sample_count > sample_limit(dimension) || !sample_count.is_power_of_two() {
+    if sample_count == 0
+        || sample_count > sample_limit(dimension)
+        || !sample_count.is_power_of_two()
+    {
         return Err(TextureDimensionError::InvalidSampleCount(sample_count));
     }
     Ok(())
@@ -69,6 +78,10 @@ pub fn check_texture_dimension_size(
     let (width, height, depth_or_array_layers) = extent_limits(dimension, limits);
     check_side(TextureErrorDimension::X, size.width, width)?;
     check_side(TextureErrorDimension::Y, size.height, height)?;
-    check_side(TextureErrorDimension::Z, size.depth_or_array_layers, depth_or_array_layers)?;
+    check_side(
+        TextureErrorDimension::Z,
+        size.depth_or_array_layers,
+        depth_or_array_layers,
+    )?;
     check_sample_count(dimension, sample_count)
 }

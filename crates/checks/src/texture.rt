@@ -6,7 +6,6 @@ ghost use Rattle.checks.specs.Check.{outcome, answered};
 ghost use Rattle.checks.specs.Checks.{shapeChecks, mipChecks, formatChecks, createChecks, twinListed};
 ghost use Rattle.checks.specs.Refusals.{refusedBy};
 ghost use Rattle.checks.specs.WebGpu.{Accepts, WebGpuDevice};
-
 use crate::blocks::check_blocks;
 use crate::blocks::check_sliced_3d;
 use crate::dimension::check_dimension;

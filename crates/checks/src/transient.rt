@@ -2,7 +2,6 @@
 ghost use mathlib.Core.Path.{_≡_};
 ghost use Rattle.checks.specs.Check.{outcome};
 ghost use Rattle.checks.specs.Checks.{transientChecks};
-
 use crate::error::CreateTextureError;
 use types::bits;
 use types::descriptor::TextureDescriptor;
@@ -21,7 +20,9 @@ pub(crate) fn check_transient(desc: &TextureDescriptor) -> Result<(), CreateText
         return Err(CreateTextureError::InvalidTransientTextureMipLevelCount(desc.mip_level_count));
     }
     if desc.size.depth_or_array_layers != 1 {
-        return Err(CreateTextureError::InvalidTransientTextureLayerCount(desc.size.depth_or_array_layers));
+        return Err(CreateTextureError::InvalidTransientTextureLayerCount(
+            desc.size.depth_or_array_layers,
+        ));
     }
     if !desc.view_formats.is_empty() {
         return Err(CreateTextureError::InvalidTransientTextureViewFormats);

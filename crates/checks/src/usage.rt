@@ -2,7 +2,6 @@
 ghost use mathlib.Core.Path.{_≡_};
 ghost use Rattle.checks.specs.Check.{outcome};
 ghost use Rattle.checks.specs.Checks.{usageChecks};
-
 use crate::error::CreateTextureError;
 use types::bits;
 use types::usages::TextureUsages;

@@ -2,7 +2,6 @@
 ghost use mathlib.Core.Path.{_≡_};
 ghost use Rattle.checks.specs.Check.{answered};
 ghost use Rattle.checks.specs.Checks.{eachViewFormat, viewFormatChecks, twinListed, isTwin};
-
 use crate::error::CreateTextureError;
 use crate::error::MissingDownlevelFlags;
 use types::bits;
@@ -26,7 +25,10 @@ pub(crate) fn check_view_formats(
     Ok(twin_listed)
 }
 
-fn look_for_twin(format: TextureFormat, view_formats: &[TextureFormat]) -> Result<bool, CreateTextureError>
+fn look_for_twin(
+    format: TextureFormat,
+    view_formats: &[TextureFormat],
+) -> Result<bool, CreateTextureError>
     ensures { λ r. ⌜ r ≡ answered (eachViewFormat format (now («view_formats» .entry))) (twinListed format (now («view_formats» .entry))) ⌝ }
 {
     let mut twin_listed = false;

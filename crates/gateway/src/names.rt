@@ -1,76 +1,217 @@
-// Names for the report: WebGPU's for formats and dimensions, a word for each refusal.
-use checks::error::CreateTextureError;
-use checks::error::TextureDimensionError;
-use types::dimension::TextureDimension;
-use types::format::TextureFormat;
+// Names for the report: WebGPU's for formats and dimensions, a word for each refusal and for what it carries.
 
-pub(crate) fn format_name(format: TextureFormat) -> &'static str {
-    match format {
-        TextureFormat::R8Unorm => "r8unorm",
-        TextureFormat::Rg8Unorm => "rg8unorm",
-        TextureFormat::Rgba8Unorm => "rgba8unorm",
-        TextureFormat::Rgba8UnormSrgb => "rgba8unorm-srgb",
-        TextureFormat::Bgra8Unorm => "bgra8unorm",
-        TextureFormat::Bgra8UnormSrgb => "bgra8unorm-srgb",
-        TextureFormat::R32Uint => "r32uint",
-        TextureFormat::R32Float => "r32float",
-        TextureFormat::Rgba16Float => "rgba16float",
-        TextureFormat::Rgba32Float => "rgba32float",
-        TextureFormat::Depth16Unorm => "depth16unorm",
-        TextureFormat::Depth24Plus => "depth24plus",
-        TextureFormat::Depth32Float => "depth32float",
-        TextureFormat::Stencil8 => "stencil8",
-        TextureFormat::Depth24PlusStencil8 => "depth24plus-stencil8",
-        TextureFormat::Depth32FloatStencil8 => "depth32float-stencil8",
-        TextureFormat::Bc1RgbaUnorm => "bc1-rgba-unorm",
-        TextureFormat::Bc1RgbaUnormSrgb => "bc1-rgba-unorm-srgb",
-        TextureFormat::EacR11Unorm => "eac-r11unorm",
-        TextureFormat::Astc8x5Unorm => "astc-8x5-unorm",
-        TextureFormat::Astc8x5UnormSrgb => "astc-8x5-unorm-srgb",
-        TextureFormat::NV12 => "nv12",
-    }
+// In the order of the formats' codes.
+pub const FORMAT_NAMES: [&str; 22] = [
+    "r8unorm",
+    "rg8unorm",
+    "rgba8unorm",
+    "rgba8unorm-srgb",
+    "bgra8unorm",
+    "bgra8unorm-srgb",
+    "r32uint",
+    "r32float",
+    "rgba16float",
+    "rgba32float",
+    "depth16unorm",
+    "depth24plus",
+    "depth32float",
+    "stencil8",
+    "depth24plus-stencil8",
+    "depth32float-stencil8",
+    "bc1-rgba-unorm",
+    "bc1-rgba-unorm-srgb",
+    "eac-r11unorm",
+    "astc-8x5-unorm",
+    "astc-8x5-unorm-srgb",
+    "nv12",
+];
+
+pub const DIMENSION_NAMES: [&str; 3] = ["1D", "2D", "3D"];
+
+#[derive(Clone, Copy)]
+pub struct Wording {
+    pub number: u32,
+    pub word: &'static str,
+    // the names of the values that the refusal carries, as many as it has
+    pub first: &'static str,
+    pub second: &'static str,
+    pub third: &'static str,
 }
 
-pub(crate) fn dimension_name(dimension: TextureDimension) -> &'static str {
-    match dimension {
-        TextureDimension::D1 => "1D",
-        TextureDimension::D2 => "2D",
-        TextureDimension::D3 => "3D",
-    }
-}
-
-pub(crate) fn refusal_word(error: &CreateTextureError) -> &'static str {
-    match error {
-        CreateTextureError::InvalidUsage(_) => "usage empty or unknown",
-        CreateTextureError::InvalidDimension(error) => dimension_word(error),
-        CreateTextureError::InvalidDepthDimension(_, _) => "depth or stencil in another dimension than 2D",
-        CreateTextureError::InvalidDimensionUsages(_, _) => "usage against the dimension",
-        CreateTextureError::InvalidCompressedDimension(_, _) => "compression against the dimension",
-        CreateTextureError::MissingFeatures(_, _) => "feature missing",
-        CreateTextureError::InvalidMipLevelCount { .. } => "level count",
-        CreateTextureError::InvalidTransientTextureUsage(_) => "usage of a transient attachment",
-        CreateTextureError::InvalidTransientTextureMipLevelCount(_) => "levels of a transient attachment",
-        CreateTextureError::InvalidTransientTextureLayerCount(_) => "layers of a transient attachment",
-        CreateTextureError::InvalidTransientTextureViewFormats => "view formats of a transient attachment",
-        CreateTextureError::InvalidMultisampledStorageBinding => "multisampled storage",
-        CreateTextureError::MultisampledNotRenderAttachment => "multisampled, yet no attachment",
-        CreateTextureError::InvalidMultisampledFormat(_) => "format that is never multisampled",
-        CreateTextureError::InvalidSampleCount(_, _, _) => "sample count of the format",
-        CreateTextureError::InvalidFormatUsages(_, _, _) => "usage of the format",
-        CreateTextureError::InvalidViewFormat(_, _) => "view format",
-        CreateTextureError::MissingDownlevelFlags(_) => "downlevel flag missing",
-    }
-}
-
-fn dimension_word(error: &TextureDimensionError) -> &'static str {
-    match error {
-        TextureDimensionError::Zero(_) => "side zero",
-        TextureDimensionError::LimitExceeded { .. } => "side over the limit",
-        TextureDimensionError::InvalidSampleCount(_) => "sample count",
-        TextureDimensionError::NotMultipleOfBlockWidth { .. } => "width in blocks",
-        TextureDimensionError::NotMultipleOfBlockHeight { .. } => "height in blocks",
-        TextureDimensionError::WidthNotMultipleOf { .. } => "width multiple",
-        TextureDimensionError::HeightNotMultipleOf { .. } => "height multiple",
-        TextureDimensionError::MultisampledDepthOrArrayLayer(_) => "multisampled layers",
-    }
-}
+pub static REFUSALS: [Wording; 25] = [
+    Wording {
+        number: 3,
+        word: "usage empty or unknown",
+        first: "usage",
+        second: "",
+        third: "",
+    },
+    Wording {
+        number: 4,
+        word: "side zero",
+        first: "side",
+        second: "",
+        third: "",
+    },
+    Wording {
+        number: 5,
+        word: "side over the limit",
+        first: "side",
+        second: "given",
+        third: "limit",
+    },
+    Wording {
+        number: 6,
+        word: "sample count",
+        first: "samples",
+        second: "",
+        third: "",
+    },
+    Wording {
+        number: 7,
+        word: "depth or stencil outside 2D",
+        first: "dimension",
+        second: "format",
+        third: "",
+    },
+    Wording {
+        number: 8,
+        word: "usage against the dimension",
+        first: "usage",
+        second: "dimension",
+        third: "",
+    },
+    Wording {
+        number: 9,
+        word: "compression against the dimension",
+        first: "dimension",
+        second: "format",
+        third: "",
+    },
+    Wording {
+        number: 10,
+        word: "width in blocks",
+        first: "width",
+        second: "block",
+        third: "format",
+    },
+    Wording {
+        number: 11,
+        word: "height in blocks",
+        first: "height",
+        second: "block",
+        third: "format",
+    },
+    Wording {
+        number: 12,
+        word: "feature missing",
+        first: "format",
+        second: "feature",
+        third: "",
+    },
+    Wording {
+        number: 13,
+        word: "level count",
+        first: "requested",
+        second: "maximum",
+        third: "",
+    },
+    Wording {
+        number: 14,
+        word: "width multiple",
+        first: "width",
+        second: "multiple",
+        third: "format",
+    },
+    Wording {
+        number: 15,
+        word: "height multiple",
+        first: "height",
+        second: "multiple",
+        third: "format",
+    },
+    Wording {
+        number: 16,
+        word: "usage of a transient attachment",
+        first: "usage",
+        second: "",
+        third: "",
+    },
+    Wording {
+        number: 17,
+        word: "levels of a transient attachment",
+        first: "levels",
+        second: "",
+        third: "",
+    },
+    Wording {
+        number: 18,
+        word: "layers of a transient attachment",
+        first: "layers",
+        second: "",
+        third: "",
+    },
+    Wording {
+        number: 19,
+        word: "view formats of a transient attachment",
+        first: "",
+        second: "",
+        third: "",
+    },
+    Wording {
+        number: 20,
+        word: "multisampled layers",
+        first: "layers",
+        second: "",
+        third: "",
+    },
+    Wording {
+        number: 21,
+        word: "multisampled storage",
+        first: "",
+        second: "",
+        third: "",
+    },
+    Wording {
+        number: 22,
+        word: "multisampled, yet no attachment",
+        first: "",
+        second: "",
+        third: "",
+    },
+    Wording {
+        number: 23,
+        word: "format that is never multisampled",
+        first: "format",
+        second: "",
+        third: "",
+    },
+    Wording {
+        number: 24,
+        word: "sample count of the format",
+        first: "samples",
+        second: "format",
+        third: "sum of its counts",
+    },
+    Wording {
+        number: 25,
+        word: "usage of the format",
+        first: "not allowed",
+        second: "format",
+        third: "allowed by WebGPU",
+    },
+    Wording {
+        number: 26,
+        word: "view format",
+        first: "viewed as",
+        second: "format",
+        third: "",
+    },
+    Wording {
+        number: 27,
+        word: "downlevel flag missing",
+        first: "flag",
+        second: "",
+        third: "",
+    },
+];

@@ -1,33 +1,163 @@
 // The overview camera: frames in luminance and colour, a history of frames, compressed stills.
-use crate::answer::report;
-use crate::request::image;
-use crate::request::plain;
-use std::io;
+use crate::container::PLAIN;
+use crate::container::Request;
 use types::descriptor::TextureDescriptor;
 use types::dimension::TextureDimension;
+use types::extent::Extent3d;
 use types::format::TextureFormat;
 use types::usages::TextureUsages;
 
 const FRAME: u32 = TextureUsages::COPY_DST | TextureUsages::TEXTURE_BINDING;
 
-pub(crate) fn serve(rt: &impl Print) -> io::Result<()> {
-    report(rt, "luminance", &image(1920, 1080, TextureFormat::R8Unorm, FRAME))?;
-    report(rt, "sampled only", &image(1920, 1080, TextureFormat::Rg8Unorm, TextureUsages::TEXTURE_BINDING))?;
-    let frame = image(1920, 1080, TextureFormat::NV12, TextureUsages::TEXTURE_BINDING);
-    report(rt, "frame in two planes", &frame)?;
-    report(rt, "frame of odd width", &image(1921, 1080, TextureFormat::NV12, TextureUsages::TEXTURE_BINDING))?;
-    report(rt, "frame of odd height", &image(1920, 1081, TextureFormat::NV12, TextureUsages::TEXTURE_BINDING))?;
-    let history = plain(TextureDimension::D2, (640, 480, 256), TextureFormat::Rgba8Unorm, FRAME);
-    report(rt, "history", &history)?;
-    let long = plain(TextureDimension::D2, (640, 480, 257), TextureFormat::Rgba8Unorm, FRAME);
-    report(rt, "history, a frame too many", &long)?;
-    let still = image(640, 480, TextureFormat::Bc1RgbaUnorm, FRAME);
-    report(rt, "still, compressed", &still)?;
-    report(rt, "still of broken width", &image(642, 480, TextureFormat::Bc1RgbaUnorm, FRAME))?;
-    report(rt, "still of broken height", &image(640, 481, TextureFormat::Bc1RgbaUnorm, FRAME))?;
-    let stack = plain(TextureDimension::D3, (64, 64, 16), TextureFormat::EacR11Unorm, FRAME);
-    report(rt, "stack of stills", &stack)?;
-    let sliced = plain(TextureDimension::D3, (64, 60, 16), TextureFormat::Astc8x5Unorm, FRAME);
-    report(rt, "sliced stack of stills", &sliced)?;
-    report(rt, "still, no level", &TextureDescriptor { mip_level_count: 0, ..still })
-}
+const LUMINANCE: TextureDescriptor<'static> = TextureDescriptor {
+    size: Extent3d {
+        width: 1920,
+        height: 1080,
+        depth_or_array_layers: 1,
+    },
+    format: TextureFormat::R8Unorm,
+    usage: FRAME,
+    ..PLAIN
+};
+
+const TWO_PLANES: TextureDescriptor<'static> = TextureDescriptor {
+    size: Extent3d {
+        width: 1920,
+        height: 1080,
+        depth_or_array_layers: 1,
+    },
+    format: TextureFormat::NV12,
+    ..PLAIN
+};
+
+const HISTORY: TextureDescriptor<'static> = TextureDescriptor {
+    size: Extent3d {
+        width: 640,
+        height: 480,
+        depth_or_array_layers: 256,
+    },
+    usage: FRAME,
+    ..PLAIN
+};
+
+const STILL: TextureDescriptor<'static> = TextureDescriptor {
+    size: Extent3d {
+        width: 640,
+        height: 480,
+        depth_or_array_layers: 1,
+    },
+    format: TextureFormat::Bc1RgbaUnorm,
+    usage: FRAME,
+    ..PLAIN
+};
+
+const STACK: TextureDescriptor<'static> = TextureDescriptor {
+    dimension: TextureDimension::D3,
+    size: Extent3d {
+        width: 64,
+        height: 60,
+        depth_or_array_layers: 16,
+    },
+    format: TextureFormat::EacR11Unorm,
+    usage: FRAME,
+    ..PLAIN
+};
+
+pub static REQUESTS: [Request; 13] = [
+    Request {
+        what: "luminance",
+        desc: LUMINANCE,
+    },
+    Request {
+        what: "luminance, only sampled",
+        desc: TextureDescriptor {
+            usage: TextureUsages::TEXTURE_BINDING,
+            ..LUMINANCE
+        },
+    },
+    Request {
+        what: "frame in two planes",
+        desc: TWO_PLANES,
+    },
+    Request {
+        what: "frame of odd width",
+        desc: TextureDescriptor {
+            size: Extent3d {
+                width: 1921,
+                height: 1080,
+                depth_or_array_layers: 1,
+            },
+            ..TWO_PLANES
+        },
+    },
+    Request {
+        what: "frame of odd height",
+        desc: TextureDescriptor {
+            size: Extent3d {
+                width: 1920,
+                height: 1081,
+                depth_or_array_layers: 1,
+            },
+            ..TWO_PLANES
+        },
+    },
+    Request {
+        what: "history",
+        desc: HISTORY,
+    },
+    Request {
+        what: "history, a frame too many",
+        desc: TextureDescriptor {
+            size: Extent3d {
+                width: 640,
+                height: 480,
+                depth_or_array_layers: 257,
+            },
+            ..HISTORY
+        },
+    },
+    Request {
+        what: "still, compressed",
+        desc: STILL,
+    },
+    Request {
+        what: "still of broken width",
+        desc: TextureDescriptor {
+            size: Extent3d {
+                width: 642,
+                height: 480,
+                depth_or_array_layers: 1,
+            },
+            ..STILL
+        },
+    },
+    Request {
+        what: "still of broken height",
+        desc: TextureDescriptor {
+            size: Extent3d {
+                width: 640,
+                height: 481,
+                depth_or_array_layers: 1,
+            },
+            ..STILL
+        },
+    },
+    Request {
+        what: "still, no level",
+        desc: TextureDescriptor {
+            mip_level_count: 0,
+            ..STILL
+        },
+    },
+    Request {
+        what: "stack of stills",
+        desc: STACK,
+    },
+    Request {
+        what: "sliced stack of stills",
+        desc: TextureDescriptor {
+            format: TextureFormat::Astc8x5Unorm,
+            ..STACK
+        },
+    },
+];

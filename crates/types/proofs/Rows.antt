@@ -78,10 +78,10 @@ module _ (f : TextureFormat) where
   pub row-law : RowLaw f
   row-law =
       record {
-          twin-back = λ t e. is-some (twinOf t) f (twin t e 0 (lit< tt));
-          twin-block = λ t e. pair (eqb-true _ _ (twin t e 1 (lit< tt))) (eqb-true _ _ (twin t e 2 (lit< tt)));
-          twin-aspects = λ t e. eqb-true _ _ (twin t e 3 (lit< tt));
-          twin-needs = λ t e. eqb-true _ _ (twin t e 4 (lit< tt));
-          part-aspects = λ a p e. eqb-true _ _ (maybe-some (partOf f a) (λ q. eqb (aspectsOf q) (aspectsAt f a)) p (part a) e);
-          usages = row 1 (lit< tt)
+        twin-back = λ t e. is-some (twinOf t) f (twin t e 0 (lit< tt));
+        twin-block = λ t e. pair (eqb-true _ _ (twin t e 1 (lit< tt))) (eqb-true _ _ (twin t e 2 (lit< tt)));
+        twin-aspects = λ t e. eqb-true _ _ (twin t e 3 (lit< tt));
+        twin-needs = λ t e. eqb-true _ _ (twin t e 4 (lit< tt));
+        part-aspects = λ a p e. eqb-true _ _ (maybe-some (partOf f a) (λ q. eqb (aspectsOf q) (aspectsAt f a)) p (part a) e);
+        usages = row 1 (lit< tt);
       }

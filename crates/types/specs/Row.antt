@@ -10,12 +10,12 @@ use Rattle.types.specs.declared.format_row.FormatRow.{FormatRow}
 abbrev pub row : ℕ → ℕ → ℕ → Option TextureFormat → ℕ → ℕ → ℕ → FormatRow
 row a w h t n u f =
     record {
-        aspects = a;
-        «block_width» = w;
-        «block_height» = h;
-        twin = t;
-        «required_features» = n;
-        guaranteed = record { «allowed_usages» = u; flags = f }
+      aspects = a;
+      «block_width» = w;
+      «block_height» = h;
+      twin = t;
+      «required_features» = n;
+      guaranteed = record { «allowed_usages» = u; flags = f };
     }
 
 abbrev pub rowOf : TextureFormat → FormatRow

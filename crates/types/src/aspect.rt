@@ -7,9 +7,13 @@ pub struct FormatAspects;
 
 impl FormatAspects {
     pub const COLOR: u32 = 1;
+
     pub const DEPTH: u32 = 2;
+
     pub const STENCIL: u32 = 4;
+
     pub const PLANE_0: u32 = 8;
+
     pub const PLANE_1: u32 = 16;
 }
 

@@ -2,7 +2,6 @@
 ghost use Prim.Native.Nat.{_≤_};
 ghost use mathlib.Core.Path.{_≡_};
 ghost use Rattle.types.specs.Extent.{maxMips, binaryDigits};
-
 use crate::dimension::TextureDimension;
 
 // Levels that the host takes at the most.

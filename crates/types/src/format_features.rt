@@ -11,10 +11,16 @@ pub struct TextureFormatFeatureFlags;
 
 impl TextureFormatFeatureFlags {
     pub const MULTISAMPLE_X2: u32 = 1;
+
     pub const MULTISAMPLE_X4: u32 = 2;
+
     pub const MULTISAMPLE_X8: u32 = 4;
+
     pub const MULTISAMPLE_X16: u32 = 8;
+
     pub const STORAGE_READ_ONLY: u32 = 16;
+
     pub const STORAGE_WRITE_ONLY: u32 = 32;
+
     pub const STORAGE_READ_WRITE: u32 = 64;
 }

@@ -1,7 +1,6 @@
 // Questions about a format, each answered from its row.
 ghost use mathlib.Core.Path.{_≡_};
 ghost use Rattle.types.specs.Formats.{blockDimensions, sizeMultiple, twinOf, aspectsOf, requiredFeatures, partOf, isDepthStencil, isCompressed, isBcn, isAstc, isPlanar, planesOf, guaranteedFeatures, describedFeatures, depthPart};
-
 use crate::aspect::FormatAspects;
 use crate::aspect::TextureAspect;
 use crate::bits;
@@ -58,9 +57,8 @@ impl TextureFormat {
             TextureAspect::All if self.is_multi_planar_format() => None,
             TextureAspect::All => Some(self),
             TextureAspect::DepthOnly => self.depth_part(),
-            TextureAspect::StencilOnly if bits::contains(self.aspects(), FormatAspects::STENCIL) => {
-                Some(TextureFormat::Stencil8)
-            }
+            TextureAspect::StencilOnly if bits::contains(self.aspects(), FormatAspects::STENCIL) =>
+                { Some(TextureFormat::Stencil8) }
             TextureAspect::Plane0 if self.is_multi_planar_format() => Some(TextureFormat::R8Unorm),
             TextureAspect::Plane1 if self.is_multi_planar_format() => Some(TextureFormat::Rg8Unorm),
             TextureAspect::StencilOnly | TextureAspect::Plane0 | TextureAspect::Plane1 => None,
@@ -71,7 +69,9 @@ impl TextureFormat {
         ensures { λ r. ⌜ r ≡ depthPart self ⌝ }
     {
         match self {
-            TextureFormat::Depth16Unorm | TextureFormat::Depth24Plus | TextureFormat::Depth32Float => Some(self),
+            TextureFormat::Depth16Unorm
+            | TextureFormat::Depth24Plus
+            | TextureFormat::Depth32Float => Some(self),
             TextureFormat::Depth24PlusStencil8 => Some(TextureFormat::Depth24Plus),
             TextureFormat::Depth32FloatStencil8 => Some(TextureFormat::Depth32Float),
             _ => None,
@@ -81,7 +81,10 @@ impl TextureFormat {
     pub fn is_depth_stencil_format(self) -> bool
         ensures { λ r. ⌜ r ≡ isDepthStencil self ⌝ }
     {
-        bits::intersects(self.aspects(), FormatAspects::DEPTH | FormatAspects::STENCIL)
+        bits::intersects(
+            self.aspects(),
+            FormatAspects::DEPTH | FormatAspects::STENCIL,
+        )
     }
 
     pub fn is_compressed(self) -> bool
@@ -107,14 +110,21 @@ impl TextureFormat {
     pub fn is_multi_planar_format(self) -> bool
         ensures { λ r. ⌜ r ≡ isPlanar self ⌝ }
     {
-        bits::intersects(self.aspects(), FormatAspects::PLANE_0 | FormatAspects::PLANE_1)
+        bits::intersects(
+            self.aspects(),
+            FormatAspects::PLANE_0 | FormatAspects::PLANE_1,
+        )
     }
 
     // How many planes a planar format has.
     pub fn planes(self) -> Option<u32>
         ensures { λ r. ⌜ r ≡ planesOf self ⌝ }
     {
-        if self.is_multi_planar_format() { Some(2) } else { None }
+        if self.is_multi_planar_format() {
+            Some(2)
+        } else {
+            None
+        }
     }
 
     // What WebGPU guarantees of the format on a device with these features.
@@ -126,7 +136,10 @@ impl TextureFormat {
 }
 
 // What a device with these features may do with the format, or which feature it lacks for that.
-pub fn describe_format_features(device: u32, format: TextureFormat) -> Result<TextureFormatFeatures, MissingFeatures>
+pub fn describe_format_features(
+    device: u32,
+    format: TextureFormat,
+) -> Result<TextureFormatFeatures, MissingFeatures>
     ensures { λ r. ⌜ r ≡ describedFeatures device format ⌝ }
 {
     require_features(device, format.required_features())?;

@@ -2,7 +2,6 @@
 ghost use mathlib.Core.Path.{_≡_};
 ghost use Rattle.types.specs.Laws.{RowLaw};
 ghost use Rattle.types.specs.Row.{rowOf};
-
 use crate::aspect::FormatAspects;
 use crate::features::Features;
 use crate::format::TextureFormat;
@@ -12,8 +11,14 @@ use crate::format_row::FormatRow;
 use crate::usages::TextureUsages;
 
 // What every format allows but the planar one; what can be an attachment besides; what can be storage too.
-const BASIC: u32 = TextureUsages::COPY_SRC | TextureUsages::COPY_DST | TextureUsages::TEXTURE_BINDING;
-const ATTACHMENT: u32 = BASIC | TextureUsages::RENDER_ATTACHMENT | TextureUsages::TRANSIENT_ATTACHMENT;
+const BASIC: u32 = TextureUsages::COPY_SRC
+    | TextureUsages::COPY_DST
+    | TextureUsages::TEXTURE_BINDING;
+
+const ATTACHMENT: u32 = BASIC
+    | TextureUsages::RENDER_ATTACHMENT
+    | TextureUsages::TRANSIENT_ATTACHMENT;
+
 const STORAGE: u32 = ATTACHMENT | TextureUsages::STORAGE_BINDING;
 
 const FORMATS: [FormatRow; 22] = [
@@ -110,7 +115,10 @@ const FORMATS: [FormatRow; 22] = [
         required_features: 0,
         guaranteed: TextureFormatFeatures {
             allowed_usages: STORAGE,
-            flags: Flags::MULTISAMPLE_X4 | Flags::STORAGE_READ_ONLY | Flags::STORAGE_WRITE_ONLY | Flags::STORAGE_READ_WRITE,
+            flags: Flags::MULTISAMPLE_X4
+                | Flags::STORAGE_READ_ONLY
+                | Flags::STORAGE_WRITE_ONLY
+                | Flags::STORAGE_READ_WRITE,
         },
     },
     // Rgba16Float

@@ -17,7 +17,7 @@ returns-in-Break-check-texture-dimension-size c =
     let v = c .args .device .now in
     went-on (usages d) (after-usage v d) _ _ (c .in-Continue-check-usage .ensures tt)
     (broke-size (sizes v d) (after-size v d) _ _ (c .from-residual-in-Break-check-texture-dimension-size .ensures .1)
-        (c .in-Break-check-texture-dimension-size .ensures tt))
+    (c .in-Break-check-texture-dimension-size .ensures tt))
 
 pub returns-in-Break-check-dimension : need.returns-in-Break-check-dimension
 returns-in-Break-check-dimension c =

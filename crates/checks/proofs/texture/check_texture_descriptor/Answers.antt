@@ -21,8 +21,8 @@ returns-in-Break-check-mips c =
     let d = c .args .desc .now in
     let v = c .args .device .now in
     let e =
-        went-on-answer (shapeChecks v d) (after-shape v d) (listed d) _ _ (c .in-Continue-check-shape .ensures tt)
-        (broke-answer (mipChecks d) (after-mips v d) (listed d) _ _ (c .from-residual-in-Break-check-mips .ensures .1) (c .in-Break-check-mips .ensures tt))
+    went-on-answer (shapeChecks v d) (after-shape v d) (listed d) _ _ (c .in-Continue-check-shape .ensures tt)
+    (broke-answer (mipChecks d) (after-mips v d) (listed d) _ _ (c .from-residual-in-Break-check-mips .ensures .1) (c .in-Break-check-mips .ensures tt))
     in
     record { value = e; webgpu = decided v d _ e }
 
@@ -31,10 +31,10 @@ returns-in-Break-check-format c =
     let d = c .args .desc .now in
     let v = c .args .device .now in
     let e =
-        went-on-answer (shapeChecks v d) (after-shape v d) (listed d) _ _ (c .in-Continue-check-shape .ensures tt)
-        (went-on-answer (mipChecks d) (after-mips v d) (listed d) _ _ (c .in-Continue-check-mips .ensures tt)
-        (broke-answer (formatChecks (v .features) d) (after-format v d) (listed d) _ _ (c .from-residual-in-Break-check-format .ensures .1)
-            (c .in-Break-check-format .ensures tt)))
+    went-on-answer (shapeChecks v d) (after-shape v d) (listed d) _ _ (c .in-Continue-check-shape .ensures tt)
+    (went-on-answer (mipChecks d) (after-mips v d) (listed d) _ _ (c .in-Continue-check-mips .ensures tt)
+    (broke-answer (formatChecks (v .features) d) (after-format v d) (listed d) _ _ (c .from-residual-in-Break-check-format .ensures .1)
+    (c .in-Break-check-format .ensures tt)))
     in
     record { value = e; webgpu = decided v d _ e }
 
@@ -43,9 +43,9 @@ returns c =
     let d = c .args .desc .now in
     let v = c .args .device .now in
     let e =
-        went-on-answer (shapeChecks v d) (after-shape v d) (listed d) _ _ (c .in-Continue-check-shape .ensures tt)
-        (went-on-answer (mipChecks d) (after-mips v d) (listed d) _ _ (c .in-Continue-check-mips .ensures tt)
-        (went-on-answer (formatChecks (v .features) d) (after-format v d) (listed d) _ _ (c .in-Continue-check-format .ensures tt)
-        (c .check-view-formats .ensures)))
+    went-on-answer (shapeChecks v d) (after-shape v d) (listed d) _ _ (c .in-Continue-check-shape .ensures tt)
+    (went-on-answer (mipChecks d) (after-mips v d) (listed d) _ _ (c .in-Continue-check-mips .ensures tt)
+    (went-on-answer (formatChecks (v .features) d) (after-format v d) (listed d) _ _ (c .in-Continue-check-format .ensures tt)
+    (c .check-view-formats .ensures)))
     in
     record { value = e; webgpu = decided v d _ e }

@@ -21,8 +21,8 @@ returns-then-not-contains c =
     went-on-answer each (downlevelChecks (c .args .downlevel-flags) f views) (twinListed f views) _ tt
     (passed-answer each (twinListed f views) _ (c .in-Continue-twin-listed .ensures tt))
     (lacks-flag (c .args .downlevel-flags) f views
-        (sym (value-answer each (twinListed f views) _ (c .in-Continue-twin-listed .ensures tt)) ∙ c .if-twin-listed .taken)
-        (sym (c .if-not-contains .ensures tt)))
+    (sym (value-answer each (twinListed f views) _ (c .in-Continue-twin-listed .ensures tt)) ∙ c .if-twin-listed .taken)
+    (sym (c .if-not-contains .ensures tt)))
 
 pub returns : need.returns
 returns c =
@@ -33,6 +33,7 @@ returns c =
     went-on-answer each (downlevelChecks (c .args .downlevel-flags) f views) (twinListed f views) _ tt
     (passed-answer each (twinListed f views) _ (c .in-Continue-twin-listed .ensures tt))
     (has-flag (c .args .downlevel-flags) f views (c .in-Continue-twin-listed .twin-listed) value
-        (elim (c .else-twin-listed .came)
-        [ else-twin-listed·by·then-twin-listed·else-not-contains w ↦ inr (sym (w .if-not-contains .ensures tt))
-        | else-twin-listed·by·else-twin-listed w ↦ inl (sym value ∙ w .if-twin-listed .left) ]))
+    (elim (c .else-twin-listed .came) [
+      | else-twin-listed·by·then-twin-listed·else-not-contains w ↦ inr (sym (w .if-not-contains .ensures tt))
+      | else-twin-listed·by·else-twin-listed w ↦ inl (sym value ∙ w .if-twin-listed .left)
+    ]))

@@ -18,17 +18,18 @@ loop-view-format-again c =
     let views = c .args .view-formats .now in
     let i = c .loop-view-format .view-format-index in
     let noted = c .loop-view-format .twin-listed in
-    elim (c .if-is-twin .came)
-    [ then-is-twin w ↦
-        c .loop-view-format .inv ∙ pass-twin f views i noted (c .loop-view-format-test .taken) (sym (w .if-is-twin .ensures tt))
-        ∙ ap (λ (t : Bool). Left f (drop (i + 1) views) t) (sym (w .twin-listed-is))
-    | else-is-twin·else-ne w ↦
-        c .loop-view-format .inv
-        ∙ pass-itself f views i noted (c .loop-view-format-test .taken) (sym (w .if-is-twin .ensures tt)) (alike _ (w .if-ne .ensures tt))
-        ∙ ap (λ (t : Bool). Left f (drop (i + 1) views) t) (sym (w .twin-listed-is)) ]
+    elim (c .if-is-twin .came) [
+      | then-is-twin w ↦
+          c .loop-view-format .inv ∙ pass-twin f views i noted (c .loop-view-format-test .taken) (sym (w .if-is-twin .ensures tt))
+          ∙ ap (λ (t : Bool). Left f (drop (i + 1) views) t) (sym (w .twin-listed-is))
+      | else-is-twin·else-ne w ↦
+          c .loop-view-format .inv
+          ∙ pass-itself f views i noted (c .loop-view-format-test .taken) (sym (w .if-is-twin .ensures tt)) (alike _ (w .if-ne .ensures tt))
+          ∙ ap (λ (t : Bool). Left f (drop (i + 1) views) t) (sym (w .twin-listed-is))
+    ]
 
 pub returns : need.returns
 returns c =
     sym (c .loop-view-format .inv
-        ∙ nothing-left (c .args .format) (c .args .view-formats .now) (c .loop-view-format .view-format-index) (c .loop-view-format .twin-listed)
-            (c .loop-view-format-test .left))
+    ∙ nothing-left (c .args .format) (c .args .view-formats .now) (c .loop-view-format .view-format-index) (c .loop-view-format .twin-listed)
+    (c .loop-view-format-test .left))

@@ -10,4 +10,4 @@ abbrev pub Inv-loop-view-format : given.InvT-loop-view-format
 Inv-loop-view-format l =
     answered (eachViewFormat (l .format) (l .view-formats)) (twinListed (l .format) (l .view-formats))
     ≡ answered (eachViewFormat (l .format) (drop (l .view-format-index) (l .view-formats)))
-        (l .twin-listed || twinListed (l .format) (drop (l .view-format-index) (l .view-formats)))
+    (l .twin-listed || twinListed (l .format) (drop (l .view-format-index) (l .view-formats)))
