@@ -16,6 +16,6 @@ intersects set bits = not (eqb (bitAnd set bits) 0)
 abbrev pub difference : ℕ → ℕ → ℕ
 difference set bits = bitXor set (bitAnd set bits)
 
--- these bits where the condition holds, else none
-abbrev pub bitsIf : Bool → ℕ → ℕ
-bitsIf condition bits = cond condition bits 0
+-- the one bits where the set holds the other, else none
+abbrev pub mapBit : ℕ → ℕ → ℕ → ℕ
+mapBit set from to = cond (contains set from) to 0

@@ -1,9 +1,8 @@
 -- Which numbers of samples a format's flags allow: one always, and 2, 4, 8 or 16 by a flag each.
-use Prim.Native.Nat.{ℕ}
+use Prim.Native.Nat.{ℕ, _+_}
 use mathlib.Core.Bool.{Bool, true, false, cond}
-use lib.Bits.{bitOr}
 use lib.Dec.{eqb}
-use Rattle.types.specs.Bits.{contains, bitsIf}
+use Rattle.types.specs.Bits.{contains, mapBit}
 
 -- flags
 abbrev pub X2 : ℕ
@@ -40,7 +39,6 @@ sampleCountSupported flags count =
     (cond (eqb count 16) (contains flags X16)
     false))))
 
--- the sum of the counts that the flags allow
+-- the sum of the counts that the flags allow, one included
 abbrev pub supportedSampleCounts : ℕ → ℕ
-supportedSampleCounts flags =
-    bitOr (bitOr (bitOr (bitOr 1 (bitsIf (contains flags X2) 2)) (bitsIf (contains flags X4) 4)) (bitsIf (contains flags X8) 8)) (bitsIf (contains flags X16) 16)
+supportedSampleCounts flags = 1 + mapBit flags X2 2 + mapBit flags X4 4 + mapBit flags X8 8 + mapBit flags X16 16

@@ -1,9 +1,9 @@
 -- What the host is told that a texture is used for, one bit each.
 use Prim.Native.Nat.{ℕ}
-use mathlib.Core.Bool.{Bool, not, cond, _&&_}
+use mathlib.Core.Bool.{cond, _&&_}
 use lib.Bits.{bitOr}
 use Rattle.types.specs.Aspect.{COLOURED}
-use Rattle.types.specs.Bits.{contains, intersects, bitsIf}
+use Rattle.types.specs.Bits.{contains, intersects, mapBit}
 use Rattle.types.specs.Dimension.{is2D}
 use Rattle.types.specs.Formats.{aspectsOf, isDepthStencil}
 use Rattle.types.specs.Samples.{READ-ONLY, WRITE-ONLY, READ-WRITE}
@@ -12,37 +12,70 @@ use Rattle.types.specs.declared.dimension.TextureDimension.{TextureDimension}
 use Rattle.types.specs.declared.format.TextureFormat.{TextureFormat}
 use Rattle.types.specs.declared.format_features.TextureFormatFeatures.{TextureFormatFeatures}
 
+abbrev pub USE-COPY-SRC : ℕ
+USE-COPY-SRC = 1
+
+abbrev pub USE-COPY-DST : ℕ
+USE-COPY-DST = 2
+
+abbrev pub RESOURCE : ℕ
+RESOURCE = 4
+
 abbrev pub COLOR-TARGET : ℕ
 COLOR-TARGET = 8
+
+abbrev pub DEPTH-STENCIL-READ : ℕ
+DEPTH-STENCIL-READ = 16
 
 abbrev pub DEPTH-STENCIL-WRITE : ℕ
 DEPTH-STENCIL-WRITE = 32
 
--- each use that was asked for: storage in the ways that the flags allow, rendering by the kind of aspect
+abbrev pub USE-READ-ONLY : ℕ
+USE-READ-ONLY = 64
+
+abbrev pub USE-WRITE-ONLY : ℕ
+USE-WRITE-ONLY = 128
+
+abbrev pub USE-READ-WRITE : ℕ
+USE-READ-WRITE = 256
+
+abbrev pub USE-ATOMIC : ℕ
+USE-ATOMIC = 512
+
+abbrev pub TRANSIENT : ℕ
+TRANSIENT = 1024
+
+-- storage in the ways that the format's flags allow
+abbrev pub storageUses : ℕ → ℕ → ℕ
+storageUses usage flags =
+    cond (contains usage STORAGE-BINDING)
+    (bitOr (bitOr (mapBit flags READ-ONLY USE-READ-ONLY) (mapBit flags WRITE-ONLY USE-WRITE-ONLY)) (mapBit flags READ-WRITE USE-READ-WRITE))
+    0
+
+-- rendering by the kind of aspect
+abbrev pub renderUses : ℕ → ℕ → ℕ
+renderUses usage aspects =
+    cond (contains usage RENDER-ATTACHMENT) (cond (intersects aspects COLOURED) COLOR-TARGET (bitOr DEPTH-STENCIL-READ DEPTH-STENCIL-WRITE)) 0
+
+-- each use that was asked for
 abbrev pub hostUses : ℕ → ℕ → ℕ → ℕ
 hostUses usage aspects flags =
-    let storage : Bool = contains usage STORAGE-BINDING in
-    let render : Bool = contains usage RENDER-ATTACHMENT in
-    let colour : Bool = intersects aspects COLOURED in
-    bitOr (bitOr (bitOr (bitOr (bitOr (bitOr (bitOr (bitOr (bitOr
-    (bitsIf (contains usage COPY-SRC) 1)
-    (bitsIf (contains usage COPY-DST) 2))
-    (bitsIf (contains usage TEXTURE-BINDING) 4))
-    (bitsIf (storage && contains flags READ-ONLY) 64))
-    (bitsIf (storage && contains flags WRITE-ONLY) 128))
-    (bitsIf (storage && contains flags READ-WRITE) 256))
-    (bitsIf (render && colour) COLOR-TARGET))
-    (bitsIf (render && not colour) 48))
-    (bitsIf (contains usage STORAGE-ATOMIC) 512))
-    (bitsIf (contains usage TRANSIENT-ATTACHMENT) 1024)
+    bitOr (bitOr (bitOr (bitOr (bitOr (bitOr
+    (mapBit usage COPY-SRC USE-COPY-SRC)
+    (mapBit usage COPY-DST USE-COPY-DST))
+    (mapBit usage TEXTURE-BINDING RESOURCE))
+    (storageUses usage flags))
+    (renderUses usage aspects))
+    (mapBit usage STORAGE-ATOMIC USE-ATOMIC))
+    (mapBit usage TRANSIENT-ATTACHMENT TRANSIENT)
 
 -- a use by which the texture can be cleared: writing depth and stencil, else the copies that were asked for, else rendering
 -- where the format and the dimension have it, else copies all the same
 abbrev pub clearingUse : ℕ → TextureFormat → TextureDimension → ℕ → ℕ
 clearingUse usage format dimension allowed =
     cond (isDepthStencil format) DEPTH-STENCIL-WRITE
-    (cond (contains usage COPY-DST) 2
-    (cond (contains allowed RENDER-ATTACHMENT && is2D dimension) COLOR-TARGET 2))
+    (cond (contains usage COPY-DST) USE-COPY-DST
+    (cond (contains allowed RENDER-ATTACHMENT && is2D dimension) COLOR-TARGET USE-COPY-DST))
 
 abbrev pub textureUses : ℕ → TextureFormat → TextureDimension → TextureFormatFeatures → ℕ
 textureUses usage format dimension features =

@@ -1,6 +1,7 @@
 // Sets of bits, the form in which usages, features, flags and aspects are held.
+ghost use Prim.Native.Nat.{_≤_};
 ghost use mathlib.Core.Path.{_≡_};
-ghost use Rattle.types.specs.Bits.{contains as containsAll, intersects as meets, difference as without, bitsIf};
+ghost use Rattle.types.specs.Bits.{contains as containsAll, intersects as meets, difference as without, mapBit};
 
 // Whether the set holds each of these bits.
 pub fn contains(set: u32, bits: u32) -> bool
@@ -23,9 +24,10 @@ pub fn difference(set: u32, bits: u32) -> u32
     set ^ (set & bits)
 }
 
-// These bits where the condition holds, and none where it does not.
-pub fn bits_if(condition: bool, bits: u32) -> u32
-    ensures { λ r. ⌜ r ≡ bitsIf condition bits ⌝ }
+// The one bits where the set holds the other, and none where it does not.
+pub fn map_bit(set: u32, from: u32, to: u32) -> u32
+    ensures value { λ r. ⌜ r ≡ mapBit set from to ⌝ }
+    ensures bound { λ r. ⌜ r ≤ to ⌝ }
 {
-    if condition { bits } else { 0 }
+    if contains(set, from) { to } else { 0 }
 }

@@ -1,63 +1,55 @@
 // From what a container may use a texture for to what the host is told.
 ghost use mathlib.Core.Path.{_≡_};
-ghost use Rattle.types.specs.Uses.{hostUses, textureUses, clearingUse};
+ghost use Rattle.types.specs.Uses.{clearingUse, hostUses, renderUses, storageUses, textureUses};
 use crate::aspect::FormatAspects;
-use crate::bits::bits_if;
 use crate::bits::contains;
 use crate::bits::intersects;
+use crate::bits::map_bit;
 use crate::descriptor::TextureDescriptor;
 use crate::dimension::TextureDimension;
 use crate::format_features::TextureFormatFeatureFlags as Flags;
 use crate::format_features::TextureFormatFeatures;
-use crate::usages::TextureUsages;
-use crate::uses::TextureUses;
+use crate::usages::TextureUsages as Usages;
+use crate::uses::TextureUses as Uses;
 
 pub fn map_texture_usage(usage: u32, aspects: u32, flags: u32) -> u32
     ensures { λ r. ⌜ r ≡ hostUses usage aspects flags ⌝ }
 {
-    let storage = contains(usage, TextureUsages::STORAGE_BINDING);
-    let render = contains(usage, TextureUsages::RENDER_ATTACHMENT);
-    let is_color = intersects(
+    map_bit(usage, Usages::COPY_SRC, Uses::COPY_SRC)
+        | map_bit(usage, Usages::COPY_DST, Uses::COPY_DST)
+        | map_bit(usage, Usages::TEXTURE_BINDING, Uses::RESOURCE)
+        | storage_uses(usage, flags)
+        | render_uses(usage, aspects)
+        | map_bit(usage, Usages::STORAGE_ATOMIC, Uses::STORAGE_ATOMIC)
+        | map_bit(usage, Usages::TRANSIENT_ATTACHMENT, Uses::TRANSIENT)
+}
+
+fn storage_uses(usage: u32, flags: u32) -> u32
+    ensures { λ r. ⌜ r ≡ storageUses usage flags ⌝ }
+{
+    if !contains(usage, Usages::STORAGE_BINDING) {
+        return 0;
+    }
+    map_bit(flags, Flags::STORAGE_READ_ONLY, Uses::STORAGE_READ_ONLY)
+        | map_bit(flags, Flags::STORAGE_WRITE_ONLY, Uses::STORAGE_WRITE_ONLY)
+        | map_bit(flags, Flags::STORAGE_READ_WRITE, Uses::STORAGE_READ_WRITE)
+}
+
+// Planes are rendered to as colours are.
+fn render_uses(usage: u32, aspects: u32) -> u32
+    ensures { λ r. ⌜ r ≡ renderUses usage aspects ⌝ }
+{
+    if !contains(usage, Usages::RENDER_ATTACHMENT) {
+        return 0;
+    }
+    if intersects(
         aspects,
         FormatAspects::COLOR | FormatAspects::PLANE_0 | FormatAspects::PLANE_1,
-    );
-    bits_if(
-        contains(usage, TextureUsages::COPY_SRC),
-        TextureUses::COPY_SRC,
-    )
-        | bits_if(
-            contains(usage, TextureUsages::COPY_DST),
-            TextureUses::COPY_DST,
-        )
-        | bits_if(
-            contains(usage, TextureUsages::TEXTURE_BINDING),
-            TextureUses::RESOURCE,
-        )
-        | bits_if(
-            storage && contains(flags, Flags::STORAGE_READ_ONLY),
-            TextureUses::STORAGE_READ_ONLY,
-        )
-        | bits_if(
-            storage && contains(flags, Flags::STORAGE_WRITE_ONLY),
-            TextureUses::STORAGE_WRITE_ONLY,
-        )
-        | bits_if(
-            storage && contains(flags, Flags::STORAGE_READ_WRITE),
-            TextureUses::STORAGE_READ_WRITE,
-        )
-        | bits_if(render && is_color, TextureUses::COLOR_TARGET)
-        | bits_if(
-            render && !is_color,
-            TextureUses::DEPTH_STENCIL_READ | TextureUses::DEPTH_STENCIL_WRITE,
-        )
-        | bits_if(
-            contains(usage, TextureUsages::STORAGE_ATOMIC),
-            TextureUses::STORAGE_ATOMIC,
-        )
-        | bits_if(
-            contains(usage, TextureUsages::TRANSIENT_ATTACHMENT),
-            TextureUses::TRANSIENT,
-        )
+    ) {
+        Uses::COLOR_TARGET
+    } else {
+        Uses::DEPTH_STENCIL_READ | Uses::DEPTH_STENCIL_WRITE
+    }
 }
 
 // The host's uses of a texture: what was asked for, and always a way to clear it.
@@ -75,14 +67,14 @@ fn clearing_use(desc: &TextureDescriptor, allowed_usages: u32) -> u32
     ensures { λ r. ⌜ r ≡ clearingUse (now (desc .entry) .usage) (now (desc .entry) .format) (now (desc .entry) .dimension) «allowed_usages» ⌝ }
 {
     if desc.format.is_depth_stencil_format() {
-        TextureUses::DEPTH_STENCIL_WRITE
-    } else if contains(desc.usage, TextureUsages::COPY_DST) {
-        TextureUses::COPY_DST
-    } else if contains(allowed_usages, TextureUsages::RENDER_ATTACHMENT)
+        Uses::DEPTH_STENCIL_WRITE
+    } else if contains(desc.usage, Usages::COPY_DST) {
+        Uses::COPY_DST
+    } else if contains(allowed_usages, Usages::RENDER_ATTACHMENT)
         && matches!(desc.dimension, TextureDimension::D2)
     {
-        TextureUses::COLOR_TARGET
+        Uses::COLOR_TARGET
     } else {
-        TextureUses::COPY_DST
+        Uses::COPY_DST
     }
 }

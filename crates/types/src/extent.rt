@@ -1,7 +1,7 @@
 // The size of a texture, and how many levels such a size can have.
 ghost use Prim.Native.Nat.{_≤_};
 ghost use mathlib.Core.Path.{_≡_};
-ghost use Rattle.types.specs.Extent.{maxMips, binaryDigits};
+ghost use Rattle.types.specs.Extent.{maxMips, binaryDigits, DigitsUpTo16};
 use crate::dimension::TextureDimension;
 
 // Levels that the host takes at the most.
@@ -19,6 +19,7 @@ impl Extent3d {
     pub fn max_mips(self, dimension: TextureDimension) -> u32
         ensures value { λ r. ⌜ r ≡ maxMips self dimension ⌝ }
         ensures bound { λ r. ⌜ r ≤ 16 ⌝ }
+        ensures digits { λ r. ⌜ DigitsUpTo16 self dimension r ⌝ }
     {
         match dimension {
             TextureDimension::D1 => 1,

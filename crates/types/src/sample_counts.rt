@@ -1,8 +1,8 @@
 // Which numbers of samples a format's flags allow.
 ghost use mathlib.Core.Path.{_≡_};
 ghost use Rattle.types.specs.Samples.{sampleCountSupported, supportedSampleCounts};
-use crate::bits::bits_if;
 use crate::bits::contains;
+use crate::bits::map_bit;
 use crate::format_features::TextureFormatFeatureFlags as Flags;
 
 pub fn sample_count_supported(flags: u32, count: u32) -> bool
@@ -23,8 +23,8 @@ pub fn supported_sample_counts(flags: u32) -> u32
     ensures { λ r. ⌜ r ≡ supportedSampleCounts flags ⌝ }
 {
     1
-        | bits_if(contains(flags, Flags::MULTISAMPLE_X2), 2)
-        | bits_if(contains(flags, Flags::MULTISAMPLE_X4), 4)
-        | bits_if(contains(flags, Flags::MULTISAMPLE_X8), 8)
-        | bits_if(contains(flags, Flags::MULTISAMPLE_X16), 16)
+        + map_bit(flags, Flags::MULTISAMPLE_X2, 2)
+        + map_bit(flags, Flags::MULTISAMPLE_X4, 4)
+        + map_bit(flags, Flags::MULTISAMPLE_X8, 8)
+        + map_bit(flags, Flags::MULTISAMPLE_X16, 16)
 }
