@@ -11,8 +11,8 @@ use Rattle.checks.specs.declared.error.TextureDimensionError.{TextureDimension
 use Rattle.checks.specs.declared.error.TextureDimensionError.the-variants.{Zero, LimitExceeded, InvalidSampleCount as BadSampleCount, NotMultipleOfBlockWidth, NotMultipleOfBlockHeight, WidthNotMultipleOf, HeightNotMultipleOf, MultisampledDepthOrArrayLayer}
 use Rattle.checks.specs.declared.error.TextureErrorDimension.{TextureErrorDimension}
 use Rattle.checks.specs.declared.error.TextureErrorDimension.the-variants.{X, Y, Z}
-use Rattle.checks.specs.declared.error.Values.{Values}
-use Rattle.checks.specs.declared.error.Values.the-variants.{Nothing, One, Two, Three}
+use Rattle.checks.specs.declared.refusal.Values.{Values}
+use Rattle.checks.specs.declared.refusal.Values.the-variants.{Nothing, One, Two, Three}
 use Rattle.types.specs.Dimension.{dimensionCode}
 use Rattle.types.specs.Format.{codeOf}
 

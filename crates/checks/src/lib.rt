@@ -6,6 +6,7 @@ pub mod error;
 mod format_usage;
 mod levels;
 mod multisampling;
+pub mod refusal;
 pub mod size;
 pub mod texture;
 mod transient;

@@ -8,7 +8,7 @@ mod overview_camera;
 
 use checks::clear_views::clear_views_needed;
 use checks::error::CreateTextureError;
-use checks::error::Values;
+use checks::refusal::Values;
 use checks::texture::check_texture_descriptor;
 use container::Request;
 use names::DIMENSION_NAMES;

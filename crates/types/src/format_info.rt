@@ -1,6 +1,7 @@
 // Questions about a format, each answered from its row.
 ghost use mathlib.Core.Path.{_≡_};
 ghost use Rattle.types.specs.Formats.{blockDimensions, sizeMultiple, twinOf, aspectsOf, requiredFeatures, partOf, isDepthStencil, isCompressed, isBcn, isAstc, isPlanar, planesOf, guaranteedFeatures, describedFeatures, depthPart};
+ghost use Rattle.types.specs.declared.aspect.TextureAspect.the-variants.{StencilOnly};
 use crate::aspect::FormatAspects;
 use crate::aspect::TextureAspect;
 use crate::bits;
@@ -57,11 +58,10 @@ impl TextureFormat {
             TextureAspect::All if self.is_multi_planar_format() => None,
             TextureAspect::All => Some(self),
             TextureAspect::DepthOnly => self.depth_part(),
-            TextureAspect::StencilOnly if bits::contains(self.aspects(), FormatAspects::STENCIL) =>
-                { Some(TextureFormat::Stencil8) }
+            TextureAspect::StencilOnly => self.stencil_part(),
             TextureAspect::Plane0 if self.is_multi_planar_format() => Some(TextureFormat::R8Unorm),
             TextureAspect::Plane1 if self.is_multi_planar_format() => Some(TextureFormat::Rg8Unorm),
-            TextureAspect::StencilOnly | TextureAspect::Plane0 | TextureAspect::Plane1 => None,
+            TextureAspect::Plane0 | TextureAspect::Plane1 => None,
         }
     }
 
@@ -75,6 +75,16 @@ impl TextureFormat {
             TextureFormat::Depth24PlusStencil8 => Some(TextureFormat::Depth24Plus),
             TextureFormat::Depth32FloatStencil8 => Some(TextureFormat::Depth32Float),
             _ => None,
+        }
+    }
+
+    fn stencil_part(self) -> Option<TextureFormat>
+        ensures { λ r. ⌜ r ≡ partOf self StencilOnly ⌝ }
+    {
+        if bits::contains(self.aspects(), FormatAspects::STENCIL) {
+            Some(TextureFormat::Stencil8)
+        } else {
+            None
         }
     }
 
@@ -127,9 +137,9 @@ impl TextureFormat {
         }
     }
 
-    // What WebGPU guarantees of the format on a device with these features.
-    pub fn guaranteed_format_features(self, _device: u32) -> TextureFormatFeatures
-        ensures { λ r. ⌜ r ≡ guaranteedFeatures self «_device» ⌝ }
+    // What WebGPU guarantees of the format on a device with these features. No row depends on them.
+    pub fn guaranteed_format_features(self, _features: u32) -> TextureFormatFeatures
+        ensures { λ r. ⌜ r ≡ guaranteedFeatures self «_features» ⌝ }
     {
         self.row().guaranteed
     }

@@ -2,6 +2,7 @@
 ghost use mathlib.Core.Path.{_≡_};
 ghost use Rattle.types.specs.Laws.{RowLaw};
 ghost use Rattle.types.specs.Row.{rowOf};
+ghost use Rattle.types.specs.declared.format.TextureFormat.{TextureFormat};
 use crate::aspect::FormatAspects;
 use crate::features::Features;
 use crate::format::TextureFormat;
@@ -293,9 +294,15 @@ const FORMATS: [FormatRow; 22] = [
 
 impl TextureFormat {
     pub fn row(self) -> &'static FormatRow
-        ensures value { λ r. ⌜ now r ≡ rowOf self ⌝ }
-        ensures law { λ _. ⌜ RowLaw self ⌝ }
+        ensures { λ r. ⌜ now r ≡ rowOf self ⌝ }
     {
         &FORMATS[self.code() as usize - 1]
     }
+}
+
+// A theorem: what holds of every row.
+pub fn rows_agree() -> u8
+    ensures { λ _. ⌜ ((format : TextureFormat) → RowLaw format) ⌝ }
+{
+    0
 }
