@@ -1,4 +1,5 @@
--- The checks of a texture request, in their order. Each line is a test that a request fails and the refusal for it.
+-- The checks of a texture request, in their order. Each line is a test that a request fails and the refusal for it; the headings
+-- have the refusals' numbers.
 use Prim.Native.Nat.{ℕ, _*_, _-_, _^_, _%_}
 use denote.Ref.{now}
 use mathlib.Core.Bool.{Bool, true, false, not, cond, _&&_, _||_}
@@ -33,12 +34,12 @@ use Rattle.types.specs.declared.format.TextureFormat.{TextureFormat}
 use Rattle.types.specs.declared.format.TextureFormat.the-variants.{R8Unorm, Rg8Unorm}
 use Rattle.types.specs.declared.limits.Limits.{Limits}
 
--- ---- the usage: none at all, or one that is not known
+-- ---- 3: the usage: none at all, or one that is not known
 
 abbrev pub usageChecks : ℕ → List (Check CreateTextureError)
 usageChecks usage = refuse (eqb usage 0 || not (eqb (difference usage ALL-USAGES) 0)) (InvalidUsage usage) ∷ []
 
--- ---- the size and the sample count, against the limits of the dimension
+-- ---- 4, 5, 6: the size and the sample count, against the limits of the dimension
 
 -- the greatest width, height, and depth or layers
 abbrev pub extentLimits : TextureDimension → Limits → ℕ × ℕ × ℕ
@@ -74,7 +75,7 @@ sizeChecks dimension size samples limits =
 abbrev pub asDimension : Check TextureDimensionError → Check CreateTextureError
 asDimension c = refuse (c .fails) (InvalidDimension (c .refusal))
 
--- ---- what only some dimensions allow
+-- ---- 7, 8, 9, 8: what only some dimensions allow
 
 abbrev pub dimensionChecks : TextureDescriptor → List (Check CreateTextureError)
 dimensionChecks d =
@@ -84,7 +85,7 @@ dimensionChecks d =
     ∷ refuse (is1D (d .dimension) && contains (d .usage) RENDER-ATTACHMENT) (InvalidDimensionUsages RENDER-ATTACHMENT (d .dimension))
     ∷ []
 
--- ---- whole blocks of compressed formats
+-- ---- 10, 11: whole blocks of compressed formats
 
 abbrev pub multipleOf : ℕ → ℕ → Bool
 multipleOf n of = eqb (n % of) 0
@@ -97,12 +98,12 @@ blockChecks d =
     (InvalidDimension (NotMultipleOfBlockHeight (d .size .height) (blockDimensions (d .format) .1) (d .format)))
     ∷ []
 
--- a feature that is not on, refused for a format
+-- ---- 12: a feature that is not on, refused for a format
 abbrev pub featureChecks : ℕ → TextureFormat → ℕ → List (Check CreateTextureError)
 featureChecks features format needed =
     refuse (not (contains features needed)) (MissingFeatures format (record { 0 = needed })) ∷ []
 
--- ---- compressed formats in 3D: the device has to slice them
+-- ---- 12, 12, 9: compressed formats in 3D: the device has to slice them
 
 abbrev pub isSliced : TextureDescriptor → Bool
 isSliced d = is3D (d .dimension) && isCompressed (d .format)
@@ -114,7 +115,7 @@ slicedChecks features d =
     ∷ refuse (isSliced d && (not (isBcn (d .format)) && not (isAstc (d .format)))) (InvalidCompressedDimension (d .dimension) (d .format))
     ∷ []
 
--- ---- levels, and the multiples that the size is of
+-- ---- 13, 14, 15: levels, and the multiples that the size is of
 
 -- each further level of a planar format doubles the multiple
 abbrev pub levelMultiple : TextureFormat → ℕ → ℕ × ℕ
@@ -131,7 +132,7 @@ levelChecks d =
     (InvalidDimension (HeightNotMultipleOf (d .size .height) (levelMultiple (d .format) (d .«mip_level_count») .1) (d .format)))
     ∷ []
 
--- ---- transient attachments
+-- ---- 16 to 19: transient attachments
 
 abbrev pub isEmpty : List TextureFormat → Bool
 isEmpty [] = true
@@ -148,7 +149,7 @@ transientChecks d =
     ∷ refuse (isTransient d && not (isEmpty (now (d .«view_formats»)))) InvalidTransientTextureViewFormats
     ∷ []
 
--- ---- more samples than one
+-- ---- 13, 20 to 24: more samples than one
 
 abbrev pub isMultisampled : TextureDescriptor → Bool
 isMultisampled d = ltb 1 (d .«sample_count»)
@@ -165,7 +166,7 @@ multisampleChecks features flags d =
     (InvalidSampleCount (d .«sample_count») (d .format) (supportedSampleCounts flags))
     ∷ []
 
--- ---- the usage against the format
+-- ---- 25: the usage against the format
 
 -- what a planar format allows is what both of its planes allow
 abbrev pub allowedUsages : ℕ → TextureFormat → ℕ
@@ -181,7 +182,7 @@ formatUsageChecks features d =
     (eqb (difference (d .usage) (guaranteedFeatures (d .format) features .«allowed_usages»)) 0))
     ∷ []
 
--- ---- view formats: each is the format itself or its twin
+-- ---- 26, 27: view formats: each is the format itself or its twin
 
 abbrev pub isThis : Option TextureFormat → TextureFormat → Bool
 isThis None g = false
