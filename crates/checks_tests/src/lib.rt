@@ -6,6 +6,8 @@ mod formats;
 #[cfg(test)]
 mod levels;
 #[cfg(test)]
+mod rules;
+#[cfg(test)]
 mod samples;
 #[cfg(test)]
 mod sides;
