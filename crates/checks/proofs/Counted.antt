@@ -1,7 +1,7 @@
 -- The clear views of a request that passes are few enough to be counted.
-use mathlib.Core.Path.{_≡_, refl, _∙_}
+use mathlib.Core.Path.{_≡_, _∙_}
 use mathlib.Core.Bool.{Bool, true, false, cond, _&&_}
-use Prim.Native.Nat.{ℕ, _*_, _-_, _^_, _<_, _≤_, min}
+use Prim.Native.Nat.{ℕ, _*_, _-_, _^_, _≤_, min}
 use native.Mathlib.Nat.{min-eq-left}
 use native.Mathlib.Omega.{arith}
 use lib.Dec.{eqb, ltb, lit≤}
@@ -24,7 +24,6 @@ use Rattle.types.specs.declared.descriptor.TextureDescriptor.{TextureDescriptor
 use Rattle.types.specs.declared.dimension.TextureDimension.{TextureDimension}
 use Rattle.types.specs.declared.dimension.TextureDimension.the-variants.{D1, D2, D3}
 use Rattle.types.specs.declared.extent.Extent3d.{Extent3d}
-use Rattle.types.specs.declared.format.TextureFormat.{TextureFormat}
 
 sixteen : (size : Extent3d) (dim : TextureDimension) → maxMips size dim ≤ 16
 sixteen size D1 = lit≤ tt

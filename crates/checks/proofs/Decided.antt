@@ -1,7 +1,6 @@
 -- What the answer to a request tells of WebGPU's conditions.
 use mathlib.Core.Path.{_≡_, refl, sym, ap, subst, _∙_}
-use mathlib.Core.Bool.{Bool, true, false, not}
-use Prim.Native.Nat.{ℕ}
+use mathlib.Core.Bool.{Bool, true, not}
 use denote.Ref.{now}
 use Rattle.std.proofs.shelf.Tests.{false≢true}
 use Rattle.std.specs.Orderings.{Decides}

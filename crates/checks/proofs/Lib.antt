@@ -1,3 +1,4 @@
+pub mod Apart
 pub mod Counted
 pub mod Decided
 pub mod Groups

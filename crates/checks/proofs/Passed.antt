@@ -1,22 +1,20 @@
 -- No check refuses exactly when each test is false.
 use mathlib.Core.Path.{_≡_, refl}
 use mathlib.Core.Bool.{Bool, true, false, cond}
-use mathlib.Core.List.{List, [], _∷_, _++_, map}
-use Prim.Native.Nat.{ℕ}
-use native.Mathlib.Omega.{arith}
+use mathlib.Core.List.{List, [], _∷_, _++_}
+use Rattle.std.proofs.shelf.Tests.{true≢false}
 use Rattle.std.specs.declared.result.Result.{Result}
 use Rattle.std.specs.declared.result.Result.the-variants.{Ok, Err}
 use Rattle.std.specs.shelf.Lists.{All}
+use Rattle.checks.proofs.Apart.{ok-not-err}
 use Rattle.checks.specs.Check.{Check, outcome}
-use Rattle.checks.specs.Checks.{asDimension}
-use Rattle.checks.specs.declared.error.TextureDimensionError.{TextureDimensionError}
 
 module _ {E : Type 0} where
   abbrev pub Passes : Check E → Type 0
   Passes c = c .fails ≡ false
 
   no-refusal : (b : Bool) (e : E) (o : Result Unit E) → Ok tt ≡ cond b (Err e) o → (b ≡ false) × (Ok tt ≡ o)
-  no-refusal true e o h = let z : _≡_ {A = ℕ} 0 1 = cc in absurd (omega arith)
+  no-refusal true e o h = absurd (ok-not-err h)
   no-refusal false e o h = (refl, h)
 
   pub all-pass : (cs : List (Check E)) → Ok tt ≡ outcome cs → All Passes cs
@@ -26,7 +24,7 @@ module _ {E : Type 0} where
 
   then-ok : (b : Bool) (e : E) (o : Result Unit E) → b ≡ false → Ok tt ≡ o → Ok tt ≡ cond b (Err e) o
   then-ok false e o p h = h
-  then-ok true e o p h = let z : _≡_ {A = ℕ} 0 1 = cc in absurd (omega arith)
+  then-ok true e o p h = absurd (true≢false p)
 
   pub from-all : (cs : List (Check E)) → All Passes cs → Ok tt ≡ outcome cs
   from-all [] h = refl

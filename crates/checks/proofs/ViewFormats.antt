@@ -1,7 +1,7 @@
 -- Going through the view formats: what is left of the list, with the twin noted so far, gives the answer of the whole.
-use mathlib.Core.Path.{_≡_, refl, sym, ap, subst, _∙_}
+use mathlib.Core.Path.{_≡_, refl, sym, ap, _∙_}
 use mathlib.Core.Bool.{Bool, true, false, not, cond, _&&_, _||_}
-use mathlib.Core.List.{List, [], _∷_}
+use mathlib.Core.List.{List, _∷_}
 use mathlib.Core.Logic.{_⊎_, inl, inr}
 use Prim.Native.Nat.{ℕ, _+_, _<_, _≤_}
 use lib.ListN.{length, drop, getD}
@@ -9,7 +9,7 @@ use Rattle.std.proofs.shelf.Lists.{drop-all, drop-more}
 use Rattle.std.proofs.shelf.Tests.{true≢false, false≢true, not-true, not-false}
 use Rattle.std.specs.declared.result.Result.{Result}
 use Rattle.std.specs.declared.result.Result.the-variants.{Ok, Err}
-use Rattle.checks.specs.Check.{Check, outcome, answered, andThen}
+use Rattle.checks.specs.Check.{outcome, answered, andThen}
 use Rattle.checks.specs.Checks.{eachViewFormat, downlevelChecks, twinListed, isTwin}
 use Rattle.checks.specs.declared.error.CreateTextureError.{CreateTextureError}
 use Rattle.checks.specs.declared.error.CreateTextureError.the-variants.{InvalidViewFormat, MissingDownlevelFlags}

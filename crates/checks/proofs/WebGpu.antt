@@ -1,10 +1,9 @@
 -- On a device of WebGPU's, no check refuses a request exactly when WebGPU accepts it.
 use mathlib.Core.Path.{_≡_, refl, sym, ap, subst, _∙_}
-use mathlib.Core.Bool.{Bool, true, false, not, cond, _&&_, _||_}
-use mathlib.Core.List.{List, [], _∷_, _++_, map}
+use mathlib.Core.Bool.{Bool, true, false, not, _&&_, _||_}
+use mathlib.Core.List.{List, [], _∷_, map}
 use mathlib.Core.Logic.{_⊎_, inl, inr}
-use Prim.Native.Nat.{ℕ, _+_, _%_, _<_, _≤_, min, max}
-use native.Mathlib.Nat.{max-le, le-max-left, lt-of-lt-of-le}
+use Prim.Native.Nat.{ℕ, _%_, _<_, _≤_}
 use native.Mathlib.Omega.{arith}
 use denote.Ref.{now}
 use lib.Count.{ones, onesIn}
@@ -12,15 +11,13 @@ use lib.Dec.{eqb, ltb}
 use Rattle.std.proofs.shelf.Tests.{cases-lt, cases-bool, and-parts, and-from, and-left, or-parts, or-from, not-true, not-false, not-from-true, not-from-false, ltb-true, ltb-false, lt-ltb, le-ltb, eqb-true, eqb-false, eq-eqb, ne-eqb, cond-false, true≢false, false≢true}
 use Rattle.std.specs.declared.option.Option.{Option}
 use Rattle.std.specs.declared.option.Option.the-variants.{Some, None}
-use Rattle.std.specs.declared.result.Result.the-variants.{Ok}
 use Rattle.std.specs.shelf.Lists.{All}
 use Rattle.checks.proofs.Groups.{usages, sizes, after-usage, after-size, after-dimension, after-blocks, after-shape, after-mips, after-format}
 use Rattle.checks.proofs.Logarithm.{log-of, digits-of}
-use Rattle.checks.proofs.Passed.{Passes, all-pass, from-all, front, back, both}
+use Rattle.checks.proofs.Passed.{Passes, front, back, both}
 use Rattle.checks.proofs.Rows.{imp, modus, imp-from, planar-needs, within, six-bits, in-six-bits, allowed-six-bits, able-if-allowed, allowed-if-able, known, supported-four, four-multisampled}
-use Rattle.checks.specs.Check.{Check, outcome}
-use Rattle.checks.specs.Checks.{usageChecks, sampleLimit, sampleChecks, extentLimits, sizeChecks, asDimension, dimensionChecks, blockChecks, featureChecks, isSliced, slicedChecks, levelMultiple, levelChecks, isEmpty, isTransient, transientChecks, mipChecks, isMultisampled, multisampleChecks, multipleOf, allowedUsages, formatUsageChecks, formatChecks, isThis, isTwin, eachViewFormat, twinListed, downlevelChecks, viewFormatChecks, shapeChecks, createChecks}
-use Rattle.checks.specs.WebGpu.{WebGpuDevice, Enabled, Renderable, Storable, Multisamplable, Sliceable, Compatible, width, height, depth, levels, samples, Has, Rules1D, Rules2D, Rules3D, DimensionRules, MultisampleRules, TransientRules, LevelsWithin, Accepts}
+use Rattle.checks.specs.Checks.{sampleLimit, sizeChecks, asDimension, dimensionChecks, blockChecks, isSliced, slicedChecks, levelMultiple, levelChecks, isEmpty, isTransient, transientChecks, mipChecks, isMultisampled, multisampleChecks, multipleOf, allowedUsages, formatUsageChecks, formatChecks, isThis, isTwin, eachViewFormat, twinListed, downlevelChecks, shapeChecks, createChecks}
+use Rattle.checks.specs.WebGpu.{WebGpuDevice, Enabled, Multisamplable, Sliceable, Compatible, width, height, depth, levels, samples, Has, Rules2D, Rules3D, DimensionRules, MultisampleRules, TransientRules, LevelsWithin, Accepts}
 use Rattle.types.proofs.Every.{same-format, format-same}
 use Rattle.types.proofs.Rows.{row-law}
 use Rattle.types.specs.Bits.{contains, intersects, difference}
@@ -28,10 +25,9 @@ use Rattle.types.specs.Dimension.{is1D, is2D, is3D}
 use Rattle.types.specs.Extent.{largestSide, maxMips}
 use Rattle.types.specs.Features.{ASTC-SLICED-3D, BC-SLICED-3D, MULTISAMPLE-ARRAY, NV12-FORMAT, VIEW-FORMATS}
 use Rattle.types.specs.Format.{sameFormat}
-use Rattle.types.specs.Formats.{blockDimensions, isAstc, isBcn, isCompressed, isDepthStencil, isPlanar, requiredFeatures, sizeMultiple, twinOf}
-use Rattle.types.specs.Laws.{WEBGPU-USAGES}
+use Rattle.types.specs.Formats.{blockDimensions, isAstc, isBcn, isCompressed, isDepthStencil, isPlanar, requiredFeatures, twinOf}
 use Rattle.types.specs.Row.{rowOf}
-use Rattle.types.specs.Samples.{MULTISAMPLED, X4, sampleCountSupported}
+use Rattle.types.specs.Samples.{MULTISAMPLED, sampleCountSupported}
 use Rattle.types.specs.Usage.{ALL-USAGES, RENDER-ATTACHMENT, STORAGE-BINDING, TRANSIENT-ATTACHMENT}
 use Rattle.types.specs.declared.capabilities.Capabilities.{Capabilities}
 use Rattle.types.specs.declared.descriptor.TextureDescriptor.{TextureDescriptor}

@@ -7,7 +7,6 @@ use mathlib.Core.List.{List, [], _∷_, _++_, map}
 use lib.Bits.{bitAnd}
 use lib.Count.{ones}
 use lib.Dec.{eqb, ltb}
-use Rattle.std.specs.Options.{valueOr}
 use Rattle.std.specs.declared.option.Option.{Option}
 use Rattle.std.specs.declared.option.Option.the-variants.{Some, None}
 use Rattle.checks.specs.Check.{Check, refuse}
@@ -22,7 +21,7 @@ use Rattle.types.specs.Dimension.{is1D, is2D, is3D}
 use Rattle.types.specs.Extent.{maxMips}
 use Rattle.types.specs.Features.{BC-SLICED-3D, ASTC-SLICED-3D, MULTISAMPLE-ARRAY, VIEW-FORMATS}
 use Rattle.types.specs.Format.{sameFormat}
-use Rattle.types.specs.Formats.{aspectsOf, blockDimensions, guaranteedFeatures, isAstc, isBcn, isCompressed, isDepthStencil, isPlanar, requiredFeatures, sizeMultiple, twinOf}
+use Rattle.types.specs.Formats.{blockDimensions, guaranteedFeatures, isAstc, isBcn, isCompressed, isDepthStencil, isPlanar, requiredFeatures, sizeMultiple, twinOf}
 use Rattle.types.specs.Samples.{MULTISAMPLED, sampleCountSupported, supportedSampleCounts}
 use Rattle.types.specs.Usage.{ALL-USAGES, RENDER-ATTACHMENT, STORAGE-BINDING, TRANSIENT-ATTACHMENT}
 use Rattle.types.specs.declared.capabilities.Capabilities.{Capabilities}

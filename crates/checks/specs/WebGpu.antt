@@ -1,8 +1,8 @@
 -- What WebGPU asks of a texture descriptor: conditions without an order, for the formats of the table.
 use Prim.Native.Nat.{ℕ, _+_, _^_, _%_, _<_, _≤_}
 use denote.Ref.{now}
-use mathlib.Core.Bool.{Bool, true, false}
-use mathlib.Core.List.{List, []}
+use mathlib.Core.Bool.{true, false}
+use mathlib.Core.List.{[]}
 use mathlib.Core.Logic.{_⊎_}
 use mathlib.Core.Path.{_≡_}
 use Rattle.std.specs.declared.option.Option.the-variants.{Some}

@@ -1,4 +1,4 @@
-use mathlib.Core.Path.{_≡_, sym, ap, _∙_}
+use mathlib.Core.Path.{sym, _∙_}
 use Rattle.checks.proofs.Joins.{broke-answer, went-on-answer, refused-answer, passed-answer, value-answer}
 use Rattle.checks.proofs.ViewFormats.{lacks-flag, has-flag}
 use Rattle.checks.proofs.view_formats.check_view_formats.Needs as need

@@ -1,5 +1,5 @@
 use mathlib.Core.Bool.{Bool}
-use mathlib.Core.Path.{_≡_, sym, ap, _∙_}
+use mathlib.Core.Path.{sym, ap, _∙_}
 use Prim.Native.Nat.{_+_}
 use lib.ListN.{drop}
 use Rattle.checks.proofs.ViewFormats.{Left, stop-foreign, pass-itself, pass-twin, nothing-left, apart, alike}
