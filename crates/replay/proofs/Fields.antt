@@ -1,19 +1,22 @@
 -- Words and numbers of a line, taken apart and put together.
 use Prim.Native.Nat.{ℕ, _+_, _-_, _<_, _≤_}
-use mathlib.Core.Path.{_≡_, ap, sym, _∙_}
+use mathlib.Core.Bool.{Bool, true, false}
+use mathlib.Core.Path.{_≡_, ap, refl, sym, subst, _∙_}
 use mathlib.Core.List.{List, [], _∷_, _++_, map}
 use native.Mathlib.Omega.{arith}
 use denote.Ref.{RefT}
 use lib.ListN.{length, getD, take, drop}
 use Rattle.std.proofs.shelf.Elements.{all-push}
 use Rattle.std.proofs.shelf.Lists.{drop-more, map-more, map-push, take-all, take-rest}
-use Rattle.std.specs.Numbers.{Converted}
-use Rattle.std.specs.Pieces.{rejoined}
+use Rattle.std.specs.Orderings.{Decides}
 use Rattle.std.specs.Reads.{Numeral, value}
-use Rattle.std.specs.Vec.{made}
+use Rattle.std.specs.Results.{Cases}
 use Rattle.std.specs.declared.result.Result.{Result}
 use Rattle.std.specs.declared.result.Result.the-variants.{Ok, Err}
+use Rattle.replay.specs.Faults.{Decimal, FeaturesFault}
 use Rattle.replay.specs.Lines.{Write, textsOf}
+use Rattle.replay.specs.declared.parse.LineError.{LineError}
+use Rattle.replay.specs.declared.parse.LineError.the-variants.{NotDecimal}
 
 -- one word more
 pub write-more : (words : List (RefT (List ℕ))) (numbers : List ℕ) (i : ℕ) (d : RefT (List ℕ)) → i < length words
@@ -24,13 +27,13 @@ write-more words numbers i d within w numeral =
     (all-push (Numeral 10) _ _ (w .0) numeral, map-push (value 10) _ _ ∙ ap (λ ns. ns ++ value 10 (getD words i d .now) ∷ []) (w .1))
 
 -- the number of a line that has one
-pub one-number : {E : Type 0} (words : List (RefT (List ℕ))) (d : RefT (List ℕ)) (r : Result ℕ E) (small : Type 0) → length words ≡ 1
-    → Converted r (Numeral 10 (getD words 0 d .now) × small) (value 10 (getD words 0 d .now))
-    → made r (λ n. Write (textsOf words) (n ∷ []))
-one-number (word ∷ []) d (Ok n) small one h = ((h .0 .0, tt), ap (λ v. v ∷ []) (sym (h .1)))
-one-number (word ∷ []) d (Err e) small one h = tt
-one-number [] d r small one h = absurd (omega arith)
-one-number (word ∷ second ∷ words) d r small one h = absurd (omega arith)
+pub one-number : (words : List (RefT (List ℕ))) (d : RefT (List ℕ)) (r : Result ℕ LineError) → length words ≡ 1
+    → Cases r (λ n. Decimal (getD words 0 d .now) × (n ≡ value 10 (getD words 0 d .now))) (λ error. (error ≡ NotDecimal) × (Decimal (getD words 0 d .now) → ⊥))
+    → Cases r (λ n. Write (textsOf words) (n ∷ [])) (λ error. FeaturesFault (textsOf words) error)
+one-number (word ∷ []) d (Ok n) one h = ((h .0 .0, tt), ap (λ v. v ∷ []) (sym (h .1)))
+one-number (word ∷ []) d (Err e) one h = subst (FeaturesFault (word .now ∷ [])) (sym (h .0)) (refl, h .1)
+one-number [] d r one h = absurd (omega arith)
+one-number (word ∷ second ∷ words) d r one h = absurd (omega arith)
 
 -- the first nine numbers, and the others
 nine-and-rest : (ns : List ℕ) → 9 ≤ length ns
@@ -65,12 +68,15 @@ front-and-last words d last some e =
     ∙ map-more (λ word. word .now) words (length words - 1) d (omega arith)
     ∙ ap (λ text. textsOf (take (length words - 1) words) ++ text ∷ []) e
 
--- a line by its mark, and the other words as the rest of the slice
-pub marked-line : (text : List ℕ) (items words : List (RefT (List ℕ))) (d : RefT (List ℕ)) (mark : List ℕ)
-    → text ≡ rejoined 32 (textsOf items) → words ≡ items → 1 ≤ length words → getD words 0 d .now ≡ mark
-    → text ≡ rejoined 32 (mark ∷ textsOf (take (length words - 1) (drop 1 words)))
-marked-line text items words d mark joined same some e =
+-- the words of a line: its mark, and the others as the rest of the slice
+pub mark-and-rest : (items words : List (RefT (List ℕ))) (d : RefT (List ℕ)) (mark : List ℕ)
+    → words ≡ items → 1 ≤ length words → getD words 0 d .now ≡ mark
+    → textsOf items ≡ mark ∷ textsOf (take (length words - 1) (drop 1 words))
+mark-and-rest items words d mark same some e =
     let first = drop-more words 0 d some in
     let rest = take-rest words 1 in
-    joined ∙ ap (λ ws. rejoined 32 (textsOf ws)) (sym same ∙ first)
-    ∙ (rw rest (ap (λ m. rejoined 32 (m ∷ textsOf (drop 1 words))) e))
+    ap textsOf (sym same ∙ first) ∙ (rw rest (ap (λ m. m ∷ textsOf (drop 1 words)) e))
+
+-- what a test decides does not hold where it came out false
+pub not-decided : (b : Bool) (P : Type 0) → Decides b P → b ≡ false → P → ⊥
+not-decided b P h f p = let t : b ≡ true = h .1 p in let z : true ≡ false = cc in grind arith

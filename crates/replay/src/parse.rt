@@ -1,14 +1,14 @@
 // Lines of a file of answers, from text to requests.
-ghost use Prim.Native.Nat.{_<_, _^_};
 ghost use mathlib.Core.Path.{_≡_};
 ghost use mathlib.Core.List.{map, _∷_, []};
-ghost use Rattle.std.specs.Numbers.{Converted};
 ghost use Rattle.std.specs.Of.Vec.{vec-items};
-ghost use Rattle.std.specs.Reads.{Numeral, value};
-ghost use Rattle.std.specs.Vec.{made};
+ghost use Rattle.std.specs.Reads.{value};
+ghost use Rattle.std.specs.Results.{Cases};
 ghost use Rattle.types.specs.Dimension.{dimensionCode};
 ghost use Rattle.types.specs.Format.{codeOf};
+ghost use Rattle.replay.specs.Faults.{Decimal, NoDimension, NoFormat, NoAnswer, NumbersFault, FormatsFault, RequestFault, TextureFault, FeaturesFault, Fault};
 ghost use Rattle.replay.specs.Lines.{textsOf, Write, numbersOf, answerWord, Answered, Says};
+ghost use Rattle.replay.specs.declared.parse.LineError.the-variants.{NotDecimal, UnknownDimension, UnknownFormat, UnknownAnswer, OutOfMemory};
 use crate::codes::dimension_of;
 use crate::codes::format_of;
 use std::alloc::AllocError;
@@ -57,19 +57,23 @@ pub enum LineError {
 }
 
 pub impl From<AllocError> for LineError as LineErrorFromAlloc {
+    ghost converts = { λ _ r. r ≡ OutOfMemory };
+
     fn from(_error: AllocError) -> LineError {
         LineError::OutOfMemory
     }
 }
 
 pub impl<T: Drop> From<Refused<T>> for LineError as LineErrorFromRefused {
+    ghost converts = { λ _ r. r ≡ OutOfMemory };
+
     fn from(_error: Refused<T>) -> LineError {
         LineError::OutOfMemory
     }
 }
 
 pub fn parse_line(heap: Global, text: &str) -> Result<Line, LineError>
-    ensures { λ r. ⌜ made r (λ line. Says (now (text .entry)) line) ⌝ }
+    ensures { λ r. ⌜ Cases r (λ line. Says (now (text .entry)) line) (λ error. Fault (now (text .entry)) error) ⌝ }
 {
     if text.starts_with('#') {
         return Ok(Line::Comment);
@@ -86,7 +90,7 @@ pub fn parse_line(heap: Global, text: &str) -> Result<Line, LineError>
 }
 
 fn features(words: &[&str]) -> Result<u32, LineError>
-    ensures { λ r. ⌜ made r (λ features. Write (textsOf (now (words .entry))) (features ∷ [])) ⌝ }
+    ensures { λ r. ⌜ Cases r (λ features. Write (textsOf (now (words .entry))) (features ∷ [])) (λ error. FeaturesFault (textsOf (now (words .entry))) error) ⌝ }
 {
     let [word] = words else {
         return Err(LineError::WrongFieldCount);
@@ -95,7 +99,7 @@ fn features(words: &[&str]) -> Result<u32, LineError>
 }
 
 fn texture_answer(heap: Global, words: &[&str]) -> Result<TextureAnswer, LineError>
-    ensures { λ r. ⌜ made r (λ answer. Answered (textsOf (now (words .entry))) answer) ⌝ }
+    ensures { λ r. ⌜ Cases r (λ answer. Answered (textsOf (now (words .entry))) answer) (λ error. TextureFault (textsOf (now (words .entry))) error) ⌝ }
 {
     let [fields @ .., answer] = words else {
         return Err(LineError::WrongFieldCount);
@@ -107,7 +111,7 @@ fn texture_answer(heap: Global, words: &[&str]) -> Result<TextureAnswer, LineErr
 }
 
 fn texture_request(heap: Global, numbers: &[u32]) -> Result<TextureRequest, LineError>
-    ensures { λ r. ⌜ made r (λ request. numbersOf request ≡ now (numbers .entry)) ⌝ }
+    ensures { λ r. ⌜ Cases r (λ request. numbersOf request ≡ now (numbers .entry)) (λ error. RequestFault (now (numbers .entry)) error) ⌝ }
 {
     let [
         width,
@@ -143,19 +147,19 @@ fn texture_request(heap: Global, numbers: &[u32]) -> Result<TextureRequest, Line
 }
 
 fn texture_dimension(code: u32) -> Result<TextureDimension, LineError>
-    ensures { λ r. ⌜ made r (λ dimension. dimensionCode dimension ≡ code) ⌝ }
+    ensures { λ r. ⌜ Cases r (λ dimension. dimensionCode dimension ≡ code) (λ error. (error ≡ UnknownDimension code) × NoDimension code) ⌝ }
 {
     dimension_of(code).ok_or(LineError::UnknownDimension(code))
 }
 
 fn texture_format(code: u32) -> Result<TextureFormat, LineError>
-    ensures { λ r. ⌜ made r (λ format. codeOf format ≡ code) ⌝ }
+    ensures { λ r. ⌜ Cases r (λ format. codeOf format ≡ code) (λ error. (error ≡ UnknownFormat code) × NoFormat code) ⌝ }
 {
     format_of(code).ok_or(LineError::UnknownFormat(code))
 }
 
 fn texture_formats(heap: Global, codes: &[u32]) -> Result<Vec<TextureFormat>, LineError>
-    ensures { λ r. ⌜ made r (λ formats. map codeOf (vec-items formats) ≡ now (codes .entry)) ⌝ }
+    ensures { λ r. ⌜ Cases r (λ formats. map codeOf (vec-items formats) ≡ now (codes .entry)) (λ error. FormatsFault (now (codes .entry)) error) ⌝ }
 {
     let mut formats = Vec::new(heap);
     for code in codes {
@@ -165,7 +169,7 @@ fn texture_formats(heap: Global, codes: &[u32]) -> Result<Vec<TextureFormat>, Li
 }
 
 fn numbers(heap: Global, words: &[&str]) -> Result<Vec<u32>, LineError>
-    ensures { λ r. ⌜ made r (λ numbers. Write (textsOf (now (words .entry))) (vec-items numbers)) ⌝ }
+    ensures { λ r. ⌜ Cases r (λ numbers. Write (textsOf (now (words .entry))) (vec-items numbers)) (λ error. NumbersFault (textsOf (now (words .entry))) error) ⌝ }
 {
     let mut numbers = Vec::new(heap);
     for word in words {
@@ -175,7 +179,7 @@ fn numbers(heap: Global, words: &[&str]) -> Result<Vec<u32>, LineError>
 }
 
 fn number(word: &str) -> Result<u32, LineError>
-    ensures { λ r. ⌜ Converted r (Numeral 10 (now (word .entry)) × (value 10 (now (word .entry)) < 2 ^ 32)) (value 10 (now (word .entry))) ⌝ }
+    ensures { λ r. ⌜ Cases r (λ n. Decimal (now (word .entry)) × (n ≡ value 10 (now (word .entry)))) (λ error. (error ≡ NotDecimal) × (Decimal (now (word .entry)) → ⊥)) ⌝ }
 {
     // `parse` takes a plus in front
     if word.starts_with('+') {
@@ -188,7 +192,7 @@ fn number(word: &str) -> Result<u32, LineError>
 }
 
 fn yes_or_no(word: &str) -> Result<bool, LineError>
-    ensures { λ r. ⌜ made r (λ accepted. now (word .entry) ≡ answerWord accepted) ⌝ }
+    ensures { λ r. ⌜ Cases r (λ accepted. now (word .entry) ≡ answerWord accepted) (λ error. (error ≡ UnknownAnswer) × NoAnswer (now (word .entry))) ⌝ }
 {
     match word {
         "yes" => Ok(true),

@@ -1,23 +1,16 @@
 -- `parse` would take a plus in front, which is no digit; any other word it reads as it stands.
-use Prim.Native.Nat.{ℕ}
-use mathlib.Core.Bool.{Bool, true, false}
-use mathlib.Core.List.{List}
-use mathlib.Core.Path.{_≡_}
+use mathlib.Core.Path.{refl}
 use native.Mathlib.Omega.{arith}
 use lib.Dec.{lit<}
-use lib.ListN.{getD}
 use Rattle.std.proofs.shelf.Numerals.{afterPlus-none, digit-at}
 use Rattle.std.proofs.shelf.Patterns.{starts-char}
-use Rattle.std.specs.Orderings.{Decides}
+use Rattle.replay.proofs.Fields.{not-decided}
 use Rattle.replay.proofs.parse.number.Needs as need
 
-not-decided : (b : Bool) (P : Type 0) → Decides b P → b ≡ false → P → ⊥
-not-decided b P h f p = let t : b ≡ true = h .1 p in let z : true ≡ false = cc in grind arith
-
 pub returns-then-starts-with : need.returns-then-starts-with
-returns-then-starts-with c = λ h.
+returns-then-starts-with c =
     let plus = starts-char 43 (c .args .word .now) (c .starts-with .result) (c .starts-with .ensures .cases) (lit< tt) (lit< tt) .0 (c .if-starts-with .taken) in
-    omega (arith, digit-at (c .args .word .now) 0 (h .0 .1) (h .0 .0))
+    (refl, λ h. omega (arith, digit-at (c .args .word .now) 0 (h .0 .1) (h .0 .0)))
 
 pub returns-in-Ok : need.returns-in-Ok
 returns-in-Ok c =
@@ -27,4 +20,4 @@ returns-in-Ok c =
 pub returns-in-Err : need.returns-in-Err
 returns-in-Err c =
     let plain = not-decided _ _ (starts-char 43 (c .args .word .now) (c .starts-with .result) (c .starts-with .ensures .cases) (lit< tt) (lit< tt)) (c .if-starts-with .left) in
-    rw (afterPlus-none (c .args .word .now) plain) at (c .in-Err .ensures tt .reads .0)
+    (refl, rw (afterPlus-none (c .args .word .now) plain) at (c .in-Err .ensures tt .reads .0))

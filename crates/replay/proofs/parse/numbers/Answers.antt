@@ -2,6 +2,7 @@ use mathlib.Core.Path.{_∙_}
 use borrow.Author.Needs.{needs}
 use Rattle.std.proofs.shelf.Lists.{take-all}
 use Rattle.std.specs.Of.Vec.{vec-items}
+use Rattle.replay.proofs.Faults.{hands-on, not-decimal-at}
 use Rattle.replay.proofs.Fields.{write-more}
 use Rattle.replay.proofs.parse.numbers.Needs as need
 
@@ -14,3 +15,8 @@ loop-word-again c =
 
 pub returns : need.returns
 returns c = search (needs, take-all)
+
+pub returns-in-Break-number : need.returns-in-Break-number
+returns-in-Break-number c =
+    hands-on (c .from-residual .result) _ _ (c .in-Break-number .field-0 .0) (c .from-residual .ensures .1)
+    (not-decimal-at (c .args .words .now) (c .loop-word .word-index) _ _ (c .loop-word-test .taken) (c .in-Break-number .ensures tt))
