@@ -1,3 +1,4 @@
+pub mod Clearing
 pub mod Digits
 pub mod Every
 pub mod Rows

@@ -16,6 +16,6 @@ intersects set bits = not (eqb (bitAnd set bits) 0)
 abbrev pub difference : ℕ → ℕ → ℕ
 difference set bits = bitXor set (bitAnd set bits)
 
--- the one bits where the set holds the other, else none
+-- `to` where the set holds each bit of `from`, else no bit
 abbrev pub mapBit : ℕ → ℕ → ℕ → ℕ
 mapBit set from to = cond (contains set from) to 0

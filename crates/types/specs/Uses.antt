@@ -1,6 +1,8 @@
 -- What the host is told that a texture is used for, one bit each.
 use Prim.Native.Nat.{ℕ}
-use mathlib.Core.Bool.{cond, _&&_}
+use mathlib.Core.Bool.{cond, true, false, _&&_}
+use mathlib.Core.Logic.{_⊎_}
+use mathlib.Core.Path.{_≡_}
 use lib.Bits.{bitOr}
 use Rattle.types.specs.Aspect.{COLOURED}
 use Rattle.types.specs.Bits.{contains, intersects, mapBit}
@@ -80,3 +82,9 @@ clearingUse usage format dimension allowed =
 abbrev pub textureUses : ℕ → TextureFormat → TextureDimension → TextureFormatFeatures → ℕ
 textureUses usage format dimension features =
     bitOr (hostUses usage (aspectsOf format) (features .flags)) (clearingUse usage format dimension (features .«allowed_usages»))
+
+-- A texture can always be cleared: depth and stencil by writing them, anything else by a copy or by rendering.
+abbrev pub Clearable : TextureFormat → ℕ → Type 0
+Clearable format uses =
+    (isDepthStencil format ≡ true → contains uses DEPTH-STENCIL-WRITE ≡ true)
+    × (isDepthStencil format ≡ false → (contains uses USE-COPY-DST ≡ true) ⊎ (contains uses COLOR-TARGET ≡ true))

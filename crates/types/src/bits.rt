@@ -24,7 +24,7 @@ pub fn difference(set: u32, bits: u32) -> u32
     set ^ (set & bits)
 }
 
-// The one bits where the set holds the other, and none where it does not.
+// `to` where the set holds each bit of `from`, else no bit.
 pub fn map_bit(set: u32, from: u32, to: u32) -> u32
     ensures value { λ r. ⌜ r ≡ mapBit set from to ⌝ }
     ensures bound { λ r. ⌜ r ≤ to ⌝ }

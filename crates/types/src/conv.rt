@@ -1,6 +1,10 @@
 // From what a container may use a texture for to what the host is told.
+ghost use Prim.Native.Nat.{ℕ};
 ghost use mathlib.Core.Path.{_≡_};
-ghost use Rattle.types.specs.Uses.{clearingUse, hostUses, renderUses, storageUses, textureUses};
+ghost use Rattle.types.specs.Uses.{Clearable, clearingUse, hostUses, renderUses, storageUses, textureUses};
+ghost use Rattle.types.specs.declared.dimension.TextureDimension.{TextureDimension};
+ghost use Rattle.types.specs.declared.format.TextureFormat.{TextureFormat};
+ghost use Rattle.types.specs.declared.format_features.TextureFormatFeatures.{TextureFormatFeatures};
 use crate::aspect::FormatAspects;
 use crate::bits::contains;
 use crate::bits::intersects;
@@ -77,4 +81,11 @@ fn clearing_use(desc: &TextureDescriptor, allowed_usages: u32) -> u32
     } else {
         Uses::COPY_DST
     }
+}
+
+// A theorem: whatever was asked for, the host is told a use by which the texture can be cleared.
+pub fn textures_can_be_cleared() -> u8
+    ensures { λ _. ⌜ ((usage : ℕ) (format : TextureFormat) (dimension : TextureDimension) (features : TextureFormatFeatures) → Clearable format (textureUses usage format dimension features)) ⌝ }
+{
+    0
 }
