@@ -1,4 +1,6 @@
 // What a texture request is worth before the host is asked: the checks of wgpu's `create_texture_inner`, in its order.
+#![tactic(auto)]
+
 pub mod accepted;
 mod blocks;
 pub mod clear_views;

@@ -1,5 +1,7 @@
 // The vocabulary of texture and view requests: the table of formats, dimensions, aspects, usages, features, limits, sizes,
 // ranges and descriptors, and what is kept of an accepted texture or view.
+#![tactic(auto)]
+
 pub mod aspect;
 pub mod bits;
 pub mod capabilities;

@@ -1,4 +1,6 @@
 // Tests of the view checks: what is proved of them, seen on examples whose answers were worked out by hand.
+#![tactic(auto)]
+
 #[cfg(test)]
 mod device;
 #[cfg(test)]
