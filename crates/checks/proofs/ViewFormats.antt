@@ -34,11 +34,11 @@ module _ (e : CreateTextureError) (o : Result Unit CreateTextureError) (noted l 
   twin s false n p = absurd (false≢true p)
 
 -- what `!=` tells
-pub apart : (same : Bool) → (x : Bool) × (x ≡ same) × (true ≡ not x) → same ≡ false
-apart same h = sym h.1 ∙ not-true h.0 (sym h.2)
+pub apart : (same : Bool) → true ≡ not same → same ≡ false
+apart same h = not-true same (sym h)
 
-pub alike : (same : Bool) → (x : Bool) × (x ≡ same) × (false ≡ not x) → same ≡ true
-alike same h = sym h.1 ∙ not-false h.0 (sym h.2)
+pub alike : (same : Bool) → false ≡ not same → same ≡ true
+alike same h = not-false same (sym h)
 
 or_false : (b : Bool) → (b || false) ≡ b
 or_false true = refl

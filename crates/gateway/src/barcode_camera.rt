@@ -1,12 +1,10 @@
 // The barcode camera: scan lines, a brightness volume, and storage for its shaders.
-use crate::container::{PLAIN, Request, ViewRequest, WHOLE, WHOLE_RANGE};
-use types::aspect::TextureAspect;
+use crate::container::{PLAIN, Request};
 use types::descriptor::TextureDescriptor;
-use types::dimension::{TextureDimension, TextureViewDimension};
+use types::dimension::TextureDimension;
 use types::extent::Extent3d;
 use types::format::TextureFormat;
 use types::usages::TextureUsages;
-use types::view_descriptor::{ImageSubresourceRange, TextureViewDescriptor};
 
 const LINE_USAGE: u32 = TextureUsages::COPY_DST | TextureUsages::TEXTURE_BINDING;
 
@@ -58,106 +56,10 @@ const MASK: TextureDescriptor<'static> = TextureDescriptor {
     ..PLAIN
 };
 
-const LINE_VIEWS: [ViewRequest; 2] = [
-    ViewRequest {
-        what: "all of it",
-        desc: WHOLE,
-    },
-    ViewRequest {
-        what: "as an image",
-        desc: TextureViewDescriptor {
-            dimension: Some(TextureViewDimension::D2),
-            ..WHOLE
-        },
-    },
-];
-
-const VOLUME_VIEWS: [ViewRequest; 2] = [
-    ViewRequest {
-        what: "all of it",
-        desc: WHOLE,
-    },
-    ViewRequest {
-        what: "level 7",
-        desc: TextureViewDescriptor {
-            range: ImageSubresourceRange {
-                base_mip_level: 7,
-                ..WHOLE_RANGE
-            },
-            ..WHOLE
-        },
-    },
-];
-
-const SCRATCH_VIEWS: [ViewRequest; 1] = [ViewRequest {
-    what: "as storage",
-    desc: TextureViewDescriptor {
-        usage: Some(TextureUsages::STORAGE_BINDING),
-        ..WHOLE
-    },
-}];
-
-const PALETTE_VIEWS: [ViewRequest; 2] = [
-    ViewRequest {
-        what: "written",
-        desc: TextureViewDescriptor {
-            usage: Some(TextureUsages::STORAGE_BINDING),
-            ..WHOLE
-        },
-    },
-    ViewRequest {
-        what: "written in sRGB",
-        desc: TextureViewDescriptor {
-            format: Some(TextureFormat::Rgba8UnormSrgb),
-            usage: Some(TextureUsages::STORAGE_BINDING),
-            ..WHOLE
-        },
-    },
-];
-
-const MASK_VIEWS: [ViewRequest; 4] = [
-    ViewRequest {
-        what: "all of it",
-        desc: WHOLE,
-    },
-    ViewRequest {
-        what: "its depth",
-        desc: TextureViewDescriptor {
-            range: ImageSubresourceRange {
-                aspect: TextureAspect::DepthOnly,
-                ..WHOLE_RANGE
-            },
-            ..WHOLE
-        },
-    },
-    ViewRequest {
-        what: "its stencil",
-        desc: TextureViewDescriptor {
-            range: ImageSubresourceRange {
-                aspect: TextureAspect::StencilOnly,
-                ..WHOLE_RANGE
-            },
-            ..WHOLE
-        },
-    },
-    ViewRequest {
-        what: "its stencil, in the whole format",
-        desc: TextureViewDescriptor {
-            format: Some(TextureFormat::Depth24PlusStencil8),
-            range: ImageSubresourceRange {
-                aspect: TextureAspect::StencilOnly,
-                ..WHOLE_RANGE
-            },
-            ..WHOLE
-        },
-    },
-];
-
-pub static REQUESTS: [Request; 13] = [
+pub static REQUESTS: [Request; 12] = [
     Request {
         what: "scan line",
         desc: LINE,
-        views: &LINE_VIEWS,
     },
     Request {
         what: "scan line with levels",
@@ -165,7 +67,6 @@ pub static REQUESTS: [Request; 13] = [
             mip_level_count: 2,
             ..LINE
         },
-        views: &[],
     },
     Request {
         what: "pair of scan lines",
@@ -177,7 +78,6 @@ pub static REQUESTS: [Request; 13] = [
             },
             ..LINE
         },
-        views: &[],
     },
     Request {
         what: "drawn scan line",
@@ -185,7 +85,6 @@ pub static REQUESTS: [Request; 13] = [
             usage: TextureUsages::RENDER_ATTACHMENT,
             ..LINE
         },
-        views: &[],
     },
     Request {
         what: "compressed scan line",
@@ -193,7 +92,6 @@ pub static REQUESTS: [Request; 13] = [
             format: TextureFormat::Bc1RgbaUnorm,
             ..LINE
         },
-        views: &[],
     },
     Request {
         what: "brightness volume",
@@ -201,7 +99,6 @@ pub static REQUESTS: [Request; 13] = [
             mip_level_count: 8,
             ..VOLUME
         },
-        views: &VOLUME_VIEWS,
     },
     Request {
         what: "brightness volume, smooth",
@@ -209,21 +106,10 @@ pub static REQUESTS: [Request; 13] = [
             sample_count: 4,
             ..VOLUME
         },
-        views: &[],
     },
     Request {
         what: "scratch",
         desc: SCRATCH,
-        views: &SCRATCH_VIEWS,
-    },
-    Request {
-        what: "palette",
-        desc: TextureDescriptor {
-            format: TextureFormat::Rgba8Unorm,
-            view_formats: &[TextureFormat::Rgba8UnormSrgb],
-            ..SCRATCH
-        },
-        views: &PALETTE_VIEWS,
     },
     Request {
         what: "scratch in sRGB",
@@ -231,7 +117,6 @@ pub static REQUESTS: [Request; 13] = [
             format: TextureFormat::Rgba8UnormSrgb,
             ..SCRATCH
         },
-        views: &[],
     },
     Request {
         what: "atomic scratch",
@@ -239,12 +124,10 @@ pub static REQUESTS: [Request; 13] = [
             usage: SCRATCH_USAGE | TextureUsages::STORAGE_ATOMIC,
             ..SCRATCH
         },
-        views: &[],
     },
     Request {
         what: "mask",
         desc: MASK,
-        views: &MASK_VIEWS,
     },
     Request {
         what: "fine mask",
@@ -252,6 +135,5 @@ pub static REQUESTS: [Request; 13] = [
             format: TextureFormat::Depth32FloatStencil8,
             ..MASK
         },
-        views: &[],
     },
 ];

@@ -1,29 +1,27 @@
-// A gateway's day, as far as requests are checked: what an operator panel and two camera containers ask for, textures and
-// views of them, and what each request is worth before the host is asked.
+// A gateway's day, as far as requests are checked: what an operator panel and two camera containers ask for, and what
+// each request is worth before the host is asked.
+#![tactic(auto)]
+
 mod barcode_camera;
 mod container;
 mod names;
 mod operator_panel;
 mod overview_camera;
-mod refusal_text;
-mod texture_text;
-mod view_text;
 
-use checks::accepted::accepted_texture;
 use checks::clear_views::clear_views_needed;
-use container::{Request, ViewRequest};
-use names::{TEXTURE_REFUSALS, VIEW_REFUSALS};
-use refusal_text::RefusalText;
+use checks::error::CreateTextureError;
+use checks::refusal::Values;
+use checks::texture::check_texture_descriptor;
+use container::Request;
+use names::{DIMENSION_NAMES, FORMAT_NAMES, REFUSALS, Wording};
 use std::io;
-use texture_text::RequestText;
 use types::capabilities::Capabilities;
+use types::conv::map_texture_usage_for_texture;
+use types::descriptor::TextureDescriptor;
+use types::dimension::TextureDimension;
 use types::features::DownlevelFlags;
+use types::format::TextureFormat;
 use types::limits::Limits;
-use types::texture::Texture;
-use types::view::TextureView;
-use view_checks::selection::select_alike;
-use view_checks::view::check_view_descriptor;
-use view_text::ViewText;
 
 // The device of the gateway: WebGPU's default limits, no features, view formats allowed.
 const DEVICE: Capabilities = Capabilities {
@@ -46,74 +44,79 @@ fn main(rt: HostRuntime) -> io::Result<()> {
 fn serve(rt: &impl Print, container: &str, requests: &[Request]) -> io::Result<()> {
     println!(rt; "{container}")?;
     for request in requests {
-        if let Some(texture) = serve_texture(rt, request)? {
-            serve_views(rt, &texture, request.views)?;
+        print_request(rt, request.what, &request.desc)?;
+        match check_texture_descriptor(&DEVICE, &request.desc) {
+            Ok(twin_listed) => print_accepted(rt, &request.desc, twin_listed)?,
+            Err(error) => print_refused(rt, &error)?,
         }
     }
     Ok(())
 }
 
-// The texture, if the request is accepted.
-fn serve_texture(rt: &impl Print, request: &Request) -> io::Result<Option<Texture>> {
-    let desc = &request.desc;
-    let text = RequestText {
-        what: request.what,
-        desc,
-    };
-    println!(rt; "  {text}")?;
-    match accepted_texture(&DEVICE, desc) {
-        Ok(texture) => {
-            let hal_usage = texture.hal_usage;
-            let clear_views = clear_views_needed(desc, hal_usage);
-            let twin = if texture.twin_listed {
-                ", twin listed"
-            } else {
-                ""
-            };
-            println!(rt; "    accepted: host usage {hal_usage}, clear views {clear_views}{twin}")?;
-            Ok(Some(texture))
-        }
-        Err(error) => {
-            let text = RefusalText {
-                wordings: &TEXTURE_REFUSALS,
-                number: error.number(),
-                values: error.values(),
-            };
-            println!(rt; "    {text}")?;
-            Ok(None)
+fn print_request(rt: &impl Print, what: &str, desc: &TextureDescriptor) -> io::Result<()> {
+    let dimension = dimension_name(desc.dimension);
+    let size = desc.size;
+    let format = format_name(desc.format);
+    print!(rt;
+        "  {what}: {dimension} {}x{}x{}",
+        size.width, size.height, size.depth_or_array_layers
+    )?;
+    print!(rt;
+        " {format}, levels {}, samples {}",
+        desc.mip_level_count, desc.sample_count
+    )?;
+    print!(rt; ", usage {}", desc.usage)?;
+    for view_format in desc.view_formats {
+        let name = format_name(*view_format);
+        print!(rt; ", viewed as {name}")?;
+    }
+    println!(rt; "")
+}
+
+fn print_accepted(rt: &impl Print, desc: &TextureDescriptor, twin_listed: bool) -> io::Result<()> {
+    let features = desc.format.guaranteed_format_features(DEVICE.features);
+    let hal_usage = map_texture_usage_for_texture(desc, &features);
+    let clear_views = clear_views_needed(desc, hal_usage);
+    let twin = if twin_listed { ", twin listed" } else { "" };
+    println!(rt; "    accepted: host usage {hal_usage}, clear views {clear_views}{twin}")
+}
+
+fn print_refused(rt: &impl Print, error: &CreateTextureError) -> io::Result<()> {
+    let number = error.number();
+    let wording = wording(number);
+    print!(rt; "    refused: no {number}, {}", wording.word)?;
+    match error.values() {
+        Values::Nothing => println!(rt; ""),
+        Values::One(a) => println!(rt; ": {} {a}", wording.first),
+        Values::Two(a, b) => println!(rt; ": {} {a}, {} {b}", wording.first, wording.second),
+        Values::Three(a, b, c) => {
+            println!(rt;
+                ": {} {a}, {} {b}, {} {c}",
+                wording.first, wording.second, wording.third
+            )
         }
     }
 }
 
-fn serve_views(rt: &impl Print, texture: &Texture, requests: &[ViewRequest]) -> io::Result<()> {
-    let mut last: Option<TextureView> = None;
-    for request in requests {
-        print!(rt; "    view, {}: ", request.what)?;
-        match check_view_descriptor(&DEVICE, texture, &request.desc) {
-            Ok(view) => {
-                let text = ViewText { view: &view };
-                println!(rt; "{text}")?;
-                print_alike(rt, last, &view)?;
-                last = Some(view);
-            }
-            Err(error) => {
-                let text = RefusalText {
-                    wordings: &VIEW_REFUSALS,
-                    number: error.number(),
-                    values: error.values(),
-                };
-                println!(rt; "{text}")?;
-            }
+fn wording(number: u32) -> Wording {
+    for wording in &REFUSALS {
+        if wording.number == number {
+            return *wording;
         }
     }
-    Ok(())
+    Wording {
+        number,
+        word: "a refusal without a word",
+        first: "",
+        second: "",
+        third: "",
+    }
 }
 
-fn print_alike(rt: &impl Print, last: Option<TextureView>, view: &TextureView) -> io::Result<()> {
-    if let Some(last) = last {
-        if select_alike(&last, view) {
-            println!(rt; "      it selects the same as the view before")?;
-        }
-    }
-    Ok(())
+fn format_name(format: TextureFormat) -> &'static str {
+    FORMAT_NAMES[format.code() as usize - 1]
+}
+
+fn dimension_name(dimension: TextureDimension) -> &'static str {
+    DIMENSION_NAMES[dimension.code() as usize - 1]
 }

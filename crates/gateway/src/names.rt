@@ -28,12 +28,6 @@ pub const FORMAT_NAMES: [&str; 22] = [
 
 pub const DIMENSION_NAMES: [&str; 3] = ["1D", "2D", "3D"];
 
-// In the order of the codes of view dimensions.
-pub const VIEW_DIMENSION_NAMES: [&str; 6] = ["1D", "2D", "2D array", "cube", "cube array", "3D"];
-
-// In the order of the aspects' codes.
-pub const ASPECT_NAMES: [&str; 5] = ["all", "depth", "stencil", "plane 0", "plane 1"];
-
 #[derive(Clone, Copy)]
 pub struct Wording {
     pub number: u32,
@@ -44,7 +38,7 @@ pub struct Wording {
     pub third: &'static str,
 }
 
-pub static TEXTURE_REFUSALS: [Wording; 25] = [
+pub static REFUSALS: [Wording; 25] = [
     Wording {
         number: 3,
         word: "usage empty or unknown",
@@ -219,127 +213,5 @@ pub static TEXTURE_REFUSALS: [Wording; 25] = [
         first: "flag",
         second: "",
         third: "",
-    },
-];
-
-pub static VIEW_REFUSALS: [Wording; 17] = [
-    Wording {
-        number: 12,
-        word: "feature missing",
-        first: "feature",
-        second: "",
-        third: "",
-    },
-    Wording {
-        number: 33,
-        word: "usage of a view of a transient attachment",
-        first: "texture's",
-        second: "asked",
-        third: "",
-    },
-    Wording {
-        number: 34,
-        word: "usage beyond the texture's",
-        first: "asked",
-        second: "texture's",
-        third: "",
-    },
-    Wording {
-        number: 35,
-        word: "format that cannot be rendered to",
-        first: "format",
-        second: "",
-        third: "",
-    },
-    Wording {
-        number: 36,
-        word: "format that cannot be storage",
-        first: "format",
-        second: "",
-        third: "",
-    },
-    Wording {
-        number: 37,
-        word: "aspect that the format lacks",
-        first: "format",
-        second: "aspect",
-        third: "",
-    },
-    Wording {
-        number: 38,
-        word: "reinterpretation of the format",
-        first: "texture's",
-        second: "asked",
-        third: "",
-    },
-    Wording {
-        number: 39,
-        word: "multisampled, yet no single image",
-        first: "dimension",
-        second: "",
-        third: "",
-    },
-    Wording {
-        number: 40,
-        word: "dimension against the texture's",
-        first: "asked",
-        second: "texture's",
-        third: "",
-    },
-    Wording {
-        number: 41,
-        word: "layer count of the dimension",
-        first: "layers",
-        second: "dimension",
-        third: "",
-    },
-    Wording {
-        number: 42,
-        word: "layers of a cube",
-        first: "layers",
-        second: "",
-        third: "",
-    },
-    Wording {
-        number: 43,
-        word: "layers of cubes",
-        first: "layers",
-        second: "",
-        third: "",
-    },
-    Wording {
-        number: 44,
-        word: "faces that are not square",
-        first: "",
-        second: "",
-        third: "",
-    },
-    Wording {
-        number: 45,
-        word: "no levels",
-        first: "",
-        second: "",
-        third: "",
-    },
-    Wording {
-        number: 46,
-        word: "too many levels",
-        first: "first",
-        second: "count",
-        third: "total",
-    },
-    Wording {
-        number: 47,
-        word: "no layers",
-        first: "",
-        second: "",
-        third: "",
-    },
-    Wording {
-        number: 48,
-        word: "too many layers",
-        first: "first",
-        second: "count",
-        third: "total",
     },
 ];

@@ -1,12 +1,10 @@
 // The operator panel: a screen with a status bar, a mimic diagram, and symbols from an atlas.
-use crate::container::{PLAIN, Request, ViewRequest, WHOLE, WHOLE_RANGE};
-use types::aspect::TextureAspect;
+use crate::container::{PLAIN, Request};
 use types::descriptor::TextureDescriptor;
-use types::dimension::{TextureDimension, TextureViewDimension};
+use types::dimension::TextureDimension;
 use types::extent::Extent3d;
 use types::format::TextureFormat;
 use types::usages::TextureUsages;
-use types::view_descriptor::{ImageSubresourceRange, TextureViewDescriptor};
 
 const DRAWN: u32 = TextureUsages::TEXTURE_BINDING | TextureUsages::RENDER_ATTACHMENT;
 
@@ -74,242 +72,10 @@ const PASSING_DEPTH: TextureDescriptor<'static> = TextureDescriptor {
     ..PLAIN
 };
 
-const SCREEN_VIEWS: [ViewRequest; 6] = [
-    ViewRequest {
-        what: "all of it",
-        desc: WHOLE,
-    },
-    ViewRequest {
-        what: "drawn on",
-        desc: TextureViewDescriptor {
-            usage: Some(TextureUsages::RENDER_ATTACHMENT),
-            ..WHOLE
-        },
-    },
-    ViewRequest {
-        what: "of no usage",
-        desc: TextureViewDescriptor {
-            usage: Some(0),
-            ..WHOLE
-        },
-    },
-    ViewRequest {
-        what: "as storage",
-        desc: TextureViewDescriptor {
-            usage: Some(TextureUsages::STORAGE_BINDING),
-            ..WHOLE
-        },
-    },
-    ViewRequest {
-        what: "in sRGB, unlisted",
-        desc: TextureViewDescriptor {
-            format: Some(TextureFormat::Bgra8UnormSrgb),
-            ..WHOLE
-        },
-    },
-    ViewRequest {
-        what: "in a format that the device lacks",
-        desc: TextureViewDescriptor {
-            format: Some(TextureFormat::Depth32FloatStencil8),
-            ..WHOLE
-        },
-    },
-];
-
-const SRGB_VIEWS: [ViewRequest; 2] = [
-    ViewRequest {
-        what: "in sRGB",
-        desc: TextureViewDescriptor {
-            format: Some(TextureFormat::Bgra8UnormSrgb),
-            ..WHOLE
-        },
-    },
-    ViewRequest {
-        what: "in a foreign format",
-        desc: TextureViewDescriptor {
-            format: Some(TextureFormat::Rgba8Unorm),
-            ..WHOLE
-        },
-    },
-];
-
-const TICKER_VIEWS: [ViewRequest; 5] = [
-    ViewRequest {
-        what: "every level",
-        desc: WHOLE,
-    },
-    ViewRequest {
-        what: "level 3",
-        desc: TextureViewDescriptor {
-            range: ImageSubresourceRange {
-                base_mip_level: 3,
-                mip_level_count: Some(1),
-                ..WHOLE_RANGE
-            },
-            ..WHOLE
-        },
-    },
-    ViewRequest {
-        what: "level 3, only sampled",
-        desc: TextureViewDescriptor {
-            usage: Some(TextureUsages::TEXTURE_BINDING),
-            range: ImageSubresourceRange {
-                base_mip_level: 3,
-                mip_level_count: Some(1),
-                ..WHOLE_RANGE
-            },
-            ..WHOLE
-        },
-    },
-    ViewRequest {
-        what: "from past the last level",
-        desc: TextureViewDescriptor {
-            range: ImageSubresourceRange {
-                base_mip_level: 14,
-                ..WHOLE_RANGE
-            },
-            ..WHOLE
-        },
-    },
-    ViewRequest {
-        what: "from the largest number",
-        desc: TextureViewDescriptor {
-            range: ImageSubresourceRange {
-                base_mip_level: u32::MAX,
-                mip_level_count: Some(2),
-                ..WHOLE_RANGE
-            },
-            ..WHOLE
-        },
-    },
-];
-
-const ATLAS_VIEWS: [ViewRequest; 10] = [
-    ViewRequest {
-        what: "as an array",
-        desc: WHOLE,
-    },
-    ViewRequest {
-        what: "as a cube",
-        desc: TextureViewDescriptor {
-            dimension: Some(TextureViewDimension::Cube),
-            ..WHOLE
-        },
-    },
-    ViewRequest {
-        what: "as cubes",
-        desc: TextureViewDescriptor {
-            dimension: Some(TextureViewDimension::CubeArray),
-            ..WHOLE
-        },
-    },
-    ViewRequest {
-        what: "as a cube, shifted",
-        desc: TextureViewDescriptor {
-            dimension: Some(TextureViewDimension::Cube),
-            range: ImageSubresourceRange {
-                base_array_layer: 1,
-                ..WHOLE_RANGE
-            },
-            ..WHOLE
-        },
-    },
-    ViewRequest {
-        what: "as a cube of five",
-        desc: TextureViewDescriptor {
-            dimension: Some(TextureViewDimension::Cube),
-            range: ImageSubresourceRange {
-                array_layer_count: Some(5),
-                ..WHOLE_RANGE
-            },
-            ..WHOLE
-        },
-    },
-    ViewRequest {
-        what: "as cubes of five",
-        desc: TextureViewDescriptor {
-            dimension: Some(TextureViewDimension::CubeArray),
-            range: ImageSubresourceRange {
-                array_layer_count: Some(5),
-                ..WHOLE_RANGE
-            },
-            ..WHOLE
-        },
-    },
-    ViewRequest {
-        what: "as cubes after the last layer",
-        desc: TextureViewDescriptor {
-            dimension: Some(TextureViewDimension::CubeArray),
-            range: ImageSubresourceRange {
-                base_array_layer: 6,
-                ..WHOLE_RANGE
-            },
-            ..WHOLE
-        },
-    },
-    ViewRequest {
-        what: "as one image of two layers",
-        desc: TextureViewDescriptor {
-            dimension: Some(TextureViewDimension::D2),
-            range: ImageSubresourceRange {
-                array_layer_count: Some(2),
-                ..WHOLE_RANGE
-            },
-            ..WHOLE
-        },
-    },
-    ViewRequest {
-        what: "as a volume",
-        desc: TextureViewDescriptor {
-            dimension: Some(TextureViewDimension::D3),
-            ..WHOLE
-        },
-    },
-    ViewRequest {
-        what: "its depth",
-        desc: TextureViewDescriptor {
-            range: ImageSubresourceRange {
-                aspect: TextureAspect::DepthOnly,
-                ..WHOLE_RANGE
-            },
-            ..WHOLE
-        },
-    },
-];
-
-const SMOOTH_VIEWS: [ViewRequest; 2] = [
-    ViewRequest {
-        what: "all of it",
-        desc: WHOLE,
-    },
-    ViewRequest {
-        what: "as an array",
-        desc: TextureViewDescriptor {
-            dimension: Some(TextureViewDimension::D2Array),
-            ..WHOLE
-        },
-    },
-];
-
-const PASSING_VIEWS: [ViewRequest; 2] = [
-    ViewRequest {
-        what: "all of it",
-        desc: WHOLE,
-    },
-    ViewRequest {
-        what: "drawn on alone",
-        desc: TextureViewDescriptor {
-            usage: Some(TextureUsages::RENDER_ATTACHMENT),
-            ..WHOLE
-        },
-    },
-];
-
 pub static REQUESTS: [Request; 25] = [
     Request {
         what: "screen",
         desc: SCREEN,
-        views: &SCREEN_VIEWS,
     },
     Request {
         what: "screen with an sRGB view",
@@ -317,7 +83,6 @@ pub static REQUESTS: [Request; 25] = [
             view_formats: &[TextureFormat::Bgra8UnormSrgb],
             ..SCREEN
         },
-        views: &SRGB_VIEWS,
     },
     Request {
         what: "screen with a foreign view",
@@ -325,12 +90,10 @@ pub static REQUESTS: [Request; 25] = [
             view_formats: &[TextureFormat::Bgra8Unorm, TextureFormat::Rgba8Unorm],
             ..SCREEN
         },
-        views: &[],
     },
     Request {
         what: "ticker, every level",
         desc: TICKER,
-        views: &TICKER_VIEWS,
     },
     Request {
         what: "ticker, a level too many",
@@ -338,17 +101,14 @@ pub static REQUESTS: [Request; 25] = [
             mip_level_count: 15,
             ..TICKER
         },
-        views: &[],
     },
     Request {
         what: "symbol atlas",
         desc: ATLAS,
-        views: &ATLAS_VIEWS,
     },
     Request {
         what: "symbols of no use",
         desc: TextureDescriptor { usage: 0, ..ATLAS },
-        views: &[],
     },
     Request {
         what: "symbols of an unknown use",
@@ -356,7 +116,6 @@ pub static REQUESTS: [Request; 25] = [
             usage: 128,
             ..ATLAS
         },
-        views: &[],
     },
     Request {
         what: "wall display",
@@ -368,7 +127,6 @@ pub static REQUESTS: [Request; 25] = [
             },
             ..SCREEN
         },
-        views: &[],
     },
     Request {
         what: "collapsed window",
@@ -380,12 +138,10 @@ pub static REQUESTS: [Request; 25] = [
             },
             ..SCREEN
         },
-        views: &[],
     },
     Request {
         what: "smooth diagram",
         desc: SMOOTH,
-        views: &SMOOTH_VIEWS,
     },
     Request {
         what: "smooth diagram, three samples",
@@ -393,7 +149,6 @@ pub static REQUESTS: [Request; 25] = [
             sample_count: 3,
             ..SMOOTH
         },
-        views: &[],
     },
     Request {
         what: "smooth diagram, eight samples",
@@ -401,7 +156,6 @@ pub static REQUESTS: [Request; 25] = [
             sample_count: 8,
             ..SMOOTH
         },
-        views: &[],
     },
     Request {
         what: "smooth diagram with levels",
@@ -409,7 +163,6 @@ pub static REQUESTS: [Request; 25] = [
             mip_level_count: 2,
             ..SMOOTH
         },
-        views: &[],
     },
     Request {
         what: "smooth layers",
@@ -417,7 +170,6 @@ pub static REQUESTS: [Request; 25] = [
             size: PANEL_LAYERS,
             ..SMOOTH
         },
-        views: &[],
     },
     Request {
         what: "smooth, only loaded",
@@ -425,7 +177,6 @@ pub static REQUESTS: [Request; 25] = [
             usage: LOADED,
             ..SMOOTH
         },
-        views: &[],
     },
     Request {
         what: "smooth scratch",
@@ -434,7 +185,6 @@ pub static REQUESTS: [Request; 25] = [
             usage: TextureUsages::STORAGE_BINDING,
             ..SMOOTH
         },
-        views: &[],
     },
     Request {
         what: "smooth identifiers",
@@ -442,12 +192,10 @@ pub static REQUESTS: [Request; 25] = [
             format: TextureFormat::R32Uint,
             ..SMOOTH
         },
-        views: &[],
     },
     Request {
         what: "passing depth",
         desc: PASSING_DEPTH,
-        views: &PASSING_VIEWS,
     },
     Request {
         what: "passing depth, copied",
@@ -455,7 +203,6 @@ pub static REQUESTS: [Request; 25] = [
             usage: TRANSIENT | TextureUsages::COPY_SRC,
             ..PASSING_DEPTH
         },
-        views: &[],
     },
     Request {
         what: "passing depth with levels",
@@ -463,7 +210,6 @@ pub static REQUESTS: [Request; 25] = [
             mip_level_count: 2,
             ..PASSING_DEPTH
         },
-        views: &[],
     },
     Request {
         what: "passing depth in layers",
@@ -471,7 +217,6 @@ pub static REQUESTS: [Request; 25] = [
             size: PANEL_LAYERS,
             ..PASSING_DEPTH
         },
-        views: &[],
     },
     Request {
         what: "passing depth with a view format",
@@ -479,7 +224,6 @@ pub static REQUESTS: [Request; 25] = [
             view_formats: &[TextureFormat::Depth24Plus],
             ..PASSING_DEPTH
         },
-        views: &[],
     },
     Request {
         what: "depth in 3D",
@@ -489,7 +233,6 @@ pub static REQUESTS: [Request; 25] = [
             usage: DRAWN,
             ..PASSING_DEPTH
         },
-        views: &[],
     },
     Request {
         what: "passing volume",
@@ -499,6 +242,5 @@ pub static REQUESTS: [Request; 25] = [
             usage: TRANSIENT,
             ..PLAIN
         },
-        views: &[],
     },
 ];

@@ -1,11 +1,10 @@
 // The overview camera: frames in luminance and colour, a history of frames, compressed stills.
-use crate::container::{PLAIN, Request, ViewRequest, WHOLE, WHOLE_RANGE};
+use crate::container::{PLAIN, Request};
 use types::descriptor::TextureDescriptor;
-use types::dimension::{TextureDimension, TextureViewDimension};
+use types::dimension::TextureDimension;
 use types::extent::Extent3d;
 use types::format::TextureFormat;
 use types::usages::TextureUsages;
-use types::view_descriptor::{ImageSubresourceRange, TextureViewDescriptor};
 
 const FRAME: u32 = TextureUsages::COPY_DST | TextureUsages::TEXTURE_BINDING;
 
@@ -63,31 +62,10 @@ const STACK: TextureDescriptor<'static> = TextureDescriptor {
     ..PLAIN
 };
 
-const HISTORY_VIEWS: [ViewRequest; 2] = [
-    ViewRequest {
-        what: "the last six frames",
-        desc: TextureViewDescriptor {
-            range: ImageSubresourceRange {
-                base_array_layer: 250,
-                ..WHOLE_RANGE
-            },
-            ..WHOLE
-        },
-    },
-    ViewRequest {
-        what: "as a cube",
-        desc: TextureViewDescriptor {
-            dimension: Some(TextureViewDimension::Cube),
-            ..WHOLE
-        },
-    },
-];
-
 pub static REQUESTS: [Request; 13] = [
     Request {
         what: "luminance",
         desc: LUMINANCE,
-        views: &[],
     },
     Request {
         what: "luminance, only sampled",
@@ -95,12 +73,10 @@ pub static REQUESTS: [Request; 13] = [
             usage: TextureUsages::TEXTURE_BINDING,
             ..LUMINANCE
         },
-        views: &[],
     },
     Request {
         what: "frame in two planes",
         desc: TWO_PLANES,
-        views: &[],
     },
     Request {
         what: "frame of odd width",
@@ -112,7 +88,6 @@ pub static REQUESTS: [Request; 13] = [
             },
             ..TWO_PLANES
         },
-        views: &[],
     },
     Request {
         what: "frame of odd height",
@@ -124,12 +99,10 @@ pub static REQUESTS: [Request; 13] = [
             },
             ..TWO_PLANES
         },
-        views: &[],
     },
     Request {
         what: "history",
         desc: HISTORY,
-        views: &HISTORY_VIEWS,
     },
     Request {
         what: "history, a frame too many",
@@ -141,12 +114,10 @@ pub static REQUESTS: [Request; 13] = [
             },
             ..HISTORY
         },
-        views: &[],
     },
     Request {
         what: "still, compressed",
         desc: STILL,
-        views: &[],
     },
     Request {
         what: "still of broken width",
@@ -158,7 +129,6 @@ pub static REQUESTS: [Request; 13] = [
             },
             ..STILL
         },
-        views: &[],
     },
     Request {
         what: "still of broken height",
@@ -170,7 +140,6 @@ pub static REQUESTS: [Request; 13] = [
             },
             ..STILL
         },
-        views: &[],
     },
     Request {
         what: "still, no level",
@@ -178,12 +147,10 @@ pub static REQUESTS: [Request; 13] = [
             mip_level_count: 0,
             ..STILL
         },
-        views: &[],
     },
     Request {
         what: "stack of stills",
         desc: STACK,
-        views: &[],
     },
     Request {
         what: "sliced stack of stills",
@@ -191,6 +158,5 @@ pub static REQUESTS: [Request; 13] = [
             format: TextureFormat::Astc8x5Unorm,
             ..STACK
         },
-        views: &[],
     },
 ];

@@ -1,20 +1,12 @@
--- Requests of the file, and what the checks make of them.
-use Rattle.std.specs.Prelude.{◌≡◌, is_some, IfSome, is_ok, vec_items}
+-- A request of the file as a texture descriptor, and what the checks make of it.
+use Rattle.std.specs.Prelude.{◌≡◌, vec_items}
 use Rattle.types.specs.declared.capabilities.Capabilities.{Capabilities}
 use Rattle.types.specs.declared.descriptor.TextureDescriptor.{TextureDescriptor}
-use Rattle.types.specs.declared.texture.Texture.{Texture}
-use Rattle.checks.specs.Accepted.{Kept}
-use Rattle.checks.specs.Check.{outcome}
-use Rattle.checks.specs.Checks.{create_checks}
-use Rattle.checks.specs.Refusals.{number_of}
-use Rattle.view_checks.specs.Checks.{view_checks}
-use Rattle.view_checks.specs.Refusals.{number_of as view_number_of}
-use Rattle.view_checks.specs.Resolved.{resolved}
-use Rattle.answers.specs.declared.line.TextureAnswer.{TextureAnswer}
-use Rattle.answers.specs.declared.line.TextureRequest.{TextureRequest}
-use Rattle.answers.specs.declared.line.ViewAnswer.{ViewAnswer}
-use Rattle.replay.specs.Verdicts.{refusal_of, verdict_of}
-use Rattle.replay.specs.declared.JudgedTexture.{JudgedTexture}
+use Rattle.checks.specs.Check.{answered}
+use Rattle.checks.specs.Checks.{create_checks, is_twin_listed}
+use Rattle.replay.specs.Verdicts.{verdict_of}
+use Rattle.replay.specs.declared.parse.TextureAnswer.{TextureAnswer}
+use Rattle.replay.specs.declared.parse.TextureRequest.{TextureRequest}
 use Rattle.replay.specs.declared.tally.Verdict.{Verdict}
 
 -- the descriptor asks for what the request asks for
@@ -27,17 +19,8 @@ pub record Asks (t : TextureRequest) (d : TextureDescriptor) : Type 0 where
   pub usage : d.usage ≡ t.usage
   pub views : d.view_formats.now ≡ vec_items t.view_formats
 
--- the verdict on what the checks answer to a descriptor for the request, and what is kept of the texture where none of them fails
-pub record Judged (device : Capabilities) (a : TextureAnswer) (d : TextureDescriptor) (judged : JudgedTexture) : Type 0 where
-  pub asks : Asks a.request d
-  pub verdict : judged.verdict ≡ verdict_of (refusal_of number_of (outcome (create_checks device d))) a.accepted
-  pub made : is_some judged.texture ≡ is_ok (outcome (create_checks device d))
-  pub texture : IfSome judged.texture (Kept device d)
-
-abbrev pub TextureJudged : Capabilities → TextureAnswer → JudgedTexture → Type 0
-TextureJudged device a judged = (d : TextureDescriptor) × Judged device a d judged
-
--- the verdict on what the checks answer to a view of the texture, its omitted fields filled in
-abbrev pub view_verdict : Capabilities → Texture → ViewAnswer → Verdict
-view_verdict device t a =
-    verdict_of (refusal_of view_number_of (outcome (view_checks device.features t (resolved t a.request)))) a.accepted
+-- the verdict sets what the checks answer to such a descriptor beside the stored answer
+abbrev pub Judged : Capabilities → TextureAnswer → Verdict → Type 0
+Judged device a verdict =
+    (d : TextureDescriptor) × Asks a.request d
+    × (verdict ≡ verdict_of (answered (create_checks device d) (is_twin_listed d.format d.view_formats.now)) a.accepted)

@@ -1,19 +1,16 @@
 -- How the checks' answers stand to the stored ones.
-use Rattle.std.specs.Prelude.{ℕ, Bool, true, false, Some, None, Ok, Err, Option, Result, ◌==◌}
+use Rattle.std.specs.Prelude.{ℕ, Bool, true, false, Ok, Err, Result, ◌==◌}
+use Rattle.checks.specs.Refusals.{number_of}
+use Rattle.checks.specs.declared.error.CreateTextureError.{CreateTextureError}
 use Rattle.replay.specs.declared.tally.Verdict.{Verdict}
 use Rattle.replay.specs.declared.tally.Verdict.TheVariants.{BothAccept, BothRefuse, OnlyChecksAccept, OnlyChecksRefuse}
 
--- the number of the refusal, if there is one
-abbrev pub refusal_of : {X E : Type 0} → (E → ℕ) → Result X E → Option ℕ
-refusal_of number (Ok x) = None
-refusal_of number (Err e) = Some (number e)
-
--- the verdict on the number of the checks' refusal, if any, and whether the implementation accepted
-abbrev pub verdict_of : Option ℕ → Bool → Verdict
-verdict_of None true = BothAccept
-verdict_of None false = OnlyChecksAccept
-verdict_of (Some n) true = OnlyChecksRefuse n
-verdict_of (Some n) false = BothRefuse n
+-- the verdict on what the checks answered and whether the implementation accepted
+abbrev pub verdict_of : Result Bool CreateTextureError → Bool → Verdict
+verdict_of (Ok _) true = BothAccept
+verdict_of (Ok _) false = OnlyChecksAccept
+verdict_of (Err e) true = OnlyChecksRefuse (number_of e)
+verdict_of (Err e) false = BothRefuse (number_of e)
 
 abbrev pub both_accept : Verdict → Bool
 both_accept BothAccept = true

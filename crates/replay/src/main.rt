@@ -1,13 +1,16 @@
-// Compares the checks of texture and view requests with the stored answers of a WebGPU implementation.
+// Compares the checks of texture requests with the stored answers of a WebGPU implementation.
+#![tactic(auto)]
+
 ghost use Rattle.std.specs.Prelude.{◌≡◌};
 ghost use Rattle.replay.specs.Verdicts.{differs};
-ghost use Rattle.replay.specs.Requests.{Asks, TextureJudged, view_verdict};
+ghost use Rattle.replay.specs.Requests.{Judged};
 
+mod codes;
+mod parse;
 mod tally;
 
-use answers::line::{Line, LineError, TextureAnswer, TextureRequest, ViewAnswer};
-use answers::parse::parse_line;
-use checks::accepted::accepted_texture;
+use checks::texture::check_texture_descriptor;
+use parse::{Line, LineError, TextureAnswer, parse_line};
 use std::error::Error;
 use std::{fmt, fs, io};
 use tally::{Totals, Verdict, compare, refused_with, totals_of};
@@ -15,25 +18,22 @@ use types::capabilities::Capabilities;
 use types::descriptor::TextureDescriptor;
 use types::features::DownlevelFlags;
 use types::limits::Limits;
-use types::texture::Texture;
-use view_checks::view::check_view_descriptor;
 
 const ANSWERS: &str = "webgpu-dawn.txt";
 
 // Of the answers that differ, at most so many are printed.
 const MOST_SHOWN: usize = 20;
 
-// The numbers of the refusals of textures and of views lie from the one to the other.
+// The numbers of the refusals of texture requests.
 const FIRST_REFUSAL: u32 = 3;
 
-const LAST_REFUSAL: u32 = 48;
+const LAST_REFUSAL: u32 = 27;
 
 #[derive(Clone, Copy, Debug)]
 enum ReplayError {
     Malformed { line: usize, error: LineError },
-    NoTexture { line: usize },
     NoAnswers,
-    Differing { textures: usize, views: usize },
+    Differing(usize),
 }
 
 impl fmt::Display for ReplayError {
@@ -43,31 +43,13 @@ impl fmt::Display for ReplayError {
                 f,
                 "line {line} is malformed: {error:?}"
             ),
-            ReplayError::NoTexture { line } => write!(f, "line {line} views no texture"),
-            ReplayError::NoAnswers => write!(f, "the file lacks answers"),
-            ReplayError::Differing { textures, views } => write!(
-                f,
-                "{textures} answers on textures and {views} on views differ"
-            ),
+            ReplayError::NoAnswers => write!(f, "the file has no answer"),
+            ReplayError::Differing(count) => write!(f, "{count} answers differ"),
         }
     }
 }
 
 impl Error for ReplayError {}
-
-// The verdicts on the answers of a file, in their order.
-#[derive(Drop)]
-struct Verdicts {
-    textures: Vec<Verdict>,
-    views: Vec<Verdict>,
-}
-
-// What the checks make of a texture request: the texture, where they accept it.
-#[derive(Clone, Copy)]
-struct JudgedTexture {
-    verdict: Verdict,
-    texture: Option<Texture>,
-}
 
 fn main(rt: HostRuntime) -> anyhow::Result<()> {
     run(&rt)
@@ -76,60 +58,40 @@ fn main(rt: HostRuntime) -> anyhow::Result<()> {
 fn run(rt: &HostRuntime) -> anyhow::Result<()> {
     let text = fs::read_to_string(rt, ANSWERS)?;
     let verdicts = replay(rt, text.as_str())?;
-    if verdicts.textures.is_empty() || verdicts.views.is_empty() {
+    if verdicts.is_empty() {
         return Err(ReplayError::NoAnswers.into());
     }
-    let textures = print_tally(rt, "texture", verdicts.textures.as_slice())?.differing;
-    let views = print_tally(rt, "view", verdicts.views.as_slice())?.differing;
-    if textures > 0 || views > 0 {
-        return Err(ReplayError::Differing { textures, views }.into());
+    let totals = print_tally(rt, verdicts.as_slice())?;
+    if totals.differing > 0 {
+        return Err(ReplayError::Differing(totals.differing).into());
     }
     Ok(())
 }
 
-fn replay(rt: &HostRuntime, text: &str) -> anyhow::Result<Verdicts> {
+// The verdicts on the answers in the text, in their order.
+fn replay(rt: &HostRuntime, text: &str) -> anyhow::Result<Vec<Verdict>> {
     let heap = rt.alloc();
     let mut device = default_device();
-    // the one that was last made
-    let mut texture = None;
-    let mut verdicts = Verdicts {
-        textures: Vec::new(heap),
-        views: Vec::new(heap),
-    };
+    let mut verdicts = Vec::new(heap);
     let mut shown = 0;
     for (index, line) in text.lines().enumerate() {
         let number = index + 1;
-        let verdict = match parse_line(heap, line) {
-            Ok(Line::Comment) => continue,
-            Ok(Line::Features(features)) => {
-                device.features = features;
-                continue;
-            }
+        match parse_line(heap, line) {
+            Ok(Line::Comment) => {}
+            Ok(Line::Features(features)) => device.features = features,
             Ok(Line::Texture(answer)) => {
-                let judged = judge_texture(&device, &answer);
-                if answer.accepted {
-                    texture = judged.texture;
+                let verdict = judge(&device, &answer);
+                if is_difference(verdict) && shown < MOST_SHOWN {
+                    println!(rt; "line {number} differs: {line}")?;
+                    shown += 1;
                 }
-                verdicts.textures.push(judged.verdict)?;
-                judged.verdict
-            }
-            Ok(Line::View(answer)) => {
-                let Some(viewed) = &texture else {
-                    return Err(ReplayError::NoTexture { line: number }.into());
-                };
-                let verdict = judge_view(&device, viewed, &answer);
-                verdicts.views.push(verdict)?;
-                verdict
+                verdicts.push(verdict)?;
             }
             Err(error) => return Err(ReplayError::Malformed {
                 line: number,
                 error,
             }
             .into()),
-        };
-        if is_difference(verdict) && shown < MOST_SHOWN {
-            println!(rt; "line {number} differs: {line}")?;
-            shown += 1;
         }
     }
     Ok(verdicts)
@@ -149,26 +111,11 @@ fn default_device() -> Capabilities {
     }
 }
 
-fn judge_texture(device: &Capabilities, answer: &TextureAnswer) -> JudgedTexture
-    ensures { TextureJudged device.now answer.now result }
+fn judge(device: &Capabilities, answer: &TextureAnswer) -> Verdict
+    ensures { Judged device.now answer.now result }
 {
-    let desc = descriptor(&answer.request);
-    match accepted_texture(device, &desc) {
-        Ok(texture) => JudgedTexture {
-            verdict: compare(None, answer.accepted),
-            texture: Some(texture),
-        },
-        Err(error) => JudgedTexture {
-            verdict: compare(Some(error.number()), answer.accepted),
-            texture: None,
-        },
-    }
-}
-
-fn descriptor(request: &TextureRequest) -> TextureDescriptor<'_>
-    ensures { Asks request.now result }
-{
-    TextureDescriptor {
+    let request = &answer.request;
+    let desc = TextureDescriptor {
         size: request.size,
         mip_level_count: request.mip_level_count,
         sample_count: request.sample_count,
@@ -176,16 +123,8 @@ fn descriptor(request: &TextureRequest) -> TextureDescriptor<'_>
         format: request.format,
         usage: request.usage,
         view_formats: request.view_formats.as_slice(),
-    }
-}
-
-fn judge_view(device: &Capabilities, texture: &Texture, answer: &ViewAnswer) -> Verdict
-    ensures { result ≡ view_verdict device.now texture.now answer.now }
-{
-    match check_view_descriptor(device, texture, &answer.request) {
-        Ok(_) => compare(None, answer.accepted),
-        Err(error) => compare(Some(error.number()), answer.accepted),
-    }
+    };
+    compare(&check_texture_descriptor(device, &desc), answer.accepted)
 }
 
 fn is_difference(verdict: Verdict) -> bool
@@ -197,11 +136,11 @@ fn is_difference(verdict: Verdict) -> bool
     )
 }
 
-fn print_tally(rt: &HostRuntime, what: &str, verdicts: &[Verdict]) -> io::Result<Totals> {
+fn print_tally(rt: &HostRuntime, verdicts: &[Verdict]) -> io::Result<Totals> {
     let totals = totals_of(verdicts);
     let accepted = totals.accepted;
     let refused = totals.refused;
-    println!(rt; "{what} requests: {accepted} accepted by both, {refused} refused by both")?;
+    println!(rt; "{accepted} accepted by both, {refused} refused by both")?;
     for number in FIRST_REFUSAL..=LAST_REFUSAL {
         let count = refused_with(verdicts, number);
         if count > 0 {
@@ -211,6 +150,6 @@ fn print_tally(rt: &HostRuntime, what: &str, verdicts: &[Verdict]) -> io::Result
     let compared = verdicts.len();
     let agreeing = accepted + refused;
     let differing = totals.differing;
-    println!(rt; "{compared} {what} answers compared, {agreeing} agree, {differing} differ")?;
+    println!(rt; "{compared} answers compared, {agreeing} agree, {differing} differ")?;
     Ok(totals)
 }

@@ -2,6 +2,8 @@
 ghost use Rattle.std.specs.Prelude.{◌≡◌, ◌+◌, length, count_by};
 ghost use Rattle.replay.specs.Verdicts.{verdict_of, both_accept, both_refuse, differs, refused_with};
 
+use checks::error::CreateTextureError;
+
 // A refusal of the checks goes by its number.
 #[derive(Clone, Copy)]
 pub enum Verdict {
@@ -18,15 +20,15 @@ pub struct Totals {
     pub differing: usize,
 }
 
-// The number of the checks' refusal, if they refused, beside whether the implementation accepted.
-pub fn compare(refusal: Option<u32>, accepted: bool) -> Verdict
-    ensures { result ≡ verdict_of refusal accepted }
+// What the checks answered beside whether the implementation accepted.
+pub fn compare(checked: &Result<bool, CreateTextureError>, accepted: bool) -> Verdict
+    ensures { result ≡ verdict_of checked.now accepted }
 {
-    match refusal {
-        None if accepted => Verdict::BothAccept,
-        None => Verdict::OnlyChecksAccept,
-        Some(number) if accepted => Verdict::OnlyChecksRefuse(number),
-        Some(number) => Verdict::BothRefuse(number),
+    match checked {
+        Ok(_) if accepted => Verdict::BothAccept,
+        Ok(_) => Verdict::OnlyChecksAccept,
+        Err(error) if accepted => Verdict::OnlyChecksRefuse(error.number()),
+        Err(error) => Verdict::BothRefuse(error.number()),
     }
 }
 

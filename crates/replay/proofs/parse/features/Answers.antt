@@ -1,0 +1,15 @@
+use Rattle.std.proofs.Common.{◌≡◌, length, rules}
+use Rattle.std.proofs.lemmas.List.{length-map}
+use Rattle.replay.proofs.Fields.{one_number}
+use Rattle.replay.proofs.parse.features.Goals as goal
+
+pub returns-in-default : goal.returns-in-default
+returns-in-default c = rw (length-map c.args.words.now (λ word. word.now)) (search rules)
+
+pub returns-in-default·2 : goal.returns-in-default·2
+returns-in-default·2 c = rw (length-map c.args.words.now (λ word. word.now)) (search rules)
+
+pub returns : goal.returns
+returns c =
+    let one : length c.args.words.now ≡ 1 = search rules in
+    one_number c.args.words.now _ c.number.result one c.number.ensures
