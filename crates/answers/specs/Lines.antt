@@ -2,7 +2,7 @@
 use Rattle.std.specs.Prelude.{◌≡◌, ℕ, Bool, true, false, ◌⊎◌, List, [], ◌∷◌, ◌++◌, map, length, get_or, Some, None, vec_items, codes, Option, slice_index, slice_index_or}
 use Rattle.std.specs.Borrow.{Bor}
 use Rattle.std.specs.Str.Iter.{LacksByte}
-use Rattle.std.specs.List.{join_with_byte, AllByRecursion as All}
+use Rattle.std.specs.List.{join_with_byte, AllByRecursion}
 use Rattle.std.specs.Str.Parse.{IsNumeral, digits_value}
 use Rattle.types.specs.Dimension.{dimension_code, view_dimension_code}
 use Rattle.types.specs.Format.{code_of}
@@ -20,7 +20,7 @@ texts_of words = map (λ word. word.now) words
 
 -- words of decimal digits, and the numbers that they write
 abbrev pub Write : List (List ℕ) → List ℕ → Type 0
-Write words numbers = All (IsNumeral 10) words × (map (digits_value 10) words ≡ numbers)
+Write words numbers = AllByRecursion (IsNumeral 10) words × (map (digits_value 10) words ≡ numbers)
 
 -- the numbers of a request, in the order of the line's fields
 abbrev pub numbers_of : TextureRequest → List ℕ
@@ -89,7 +89,7 @@ Commented text = slice_index text 0 ≡ 35
 
 -- the mark of a line and its fields, with a space between each two and none inside
 abbrev pub Words : List ℕ → List ℕ → List (List ℕ) → Type 0
-Words text mark fields = (text ≡ join_with_byte 32 (mark ∷ fields)) × All (LacksByte 32) (mark ∷ fields)
+Words text mark fields = (text ≡ join_with_byte 32 (mark ∷ fields)) × AllByRecursion (LacksByte 32) (mark ∷ fields)
 
 abbrev pub Says : List ℕ → Line → Type 0
 Says text line =

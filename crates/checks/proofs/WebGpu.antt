@@ -2,7 +2,7 @@
 use Rattle.std.proofs.Common.{◌≡◌, ℕ, ◌%◌, ◌<◌, ◌≤◌, Bool, true, false, not, ◌&&◌, ◌||◌, eqb, ltb, ◌⊎◌, List, [], ◌∷◌, map, Some, Option, sym, refl, ap, ◌∙◌, subst, inl, inr, arith}
 use lib.Count.{ones, ones_in}
 use Rattle.std.proofs.lemmas.Bool.{cases_lt, cases_Bool, and_parts, and_from, and_left, or_parts, or_from, not-true, not-false, not_from_true, not_from_false, ltb-true, ltb-false, lt-ltb, le-ltb, eqb-true, eq-eqb, cond-false, true≢false, false≢true}
-use Rattle.std.specs.List.{AllByRecursion as All}
+use Rattle.std.specs.List.{AllByRecursion}
 use Rattle.checks.proofs.Groups.{usages, sizes, after_usage, after_size, after_dimension, after_blocks, after_shape, after_mips, after_format}
 use Rattle.checks.proofs.Logarithm.{log_of, digits_of}
 use Rattle.checks.proofs.Passed.{Passes, front, back, both}
@@ -48,7 +48,7 @@ module _ (v : Capabilities) (d : TextureDescriptor) where
   -- ---- from the checks to WebGPU's conditions
 
   abbrev SizesPass : TextureDimension → Type 0
-  SizesPass dim = All Passes (map as_dimension (size_checks dim d.size (samples d) v.limits))
+  SizesPass dim = AllByRecursion Passes (map as_dimension (size_checks dim d.size (samples d) v.limits))
 
   one_of : (s : ℕ) (rest : Bool) → (eqb s 0 || (ltb 1 s || rest)) ≡ false → s ≡ 1
   one_of s rest h =
@@ -128,7 +128,7 @@ module _ (v : Capabilities) (d : TextureDescriptor) where
         | inr other ↦ inr (is_this_lem (twin_of d.format) view (must (not (same_format view d.format)) (is_twin d.format view) h (not_from_false _ other)))
       ]
 
-  all_listed : (vs : List TextureFormat) → All Passes (each_view_format d.format vs) → All (Compatible d.format) vs
+  all_listed : (vs : List TextureFormat) → AllByRecursion Passes (each_view_format d.format vs) → AllByRecursion (Compatible d.format) vs
   all_listed [] h = tt
   all_listed (view ∷ vs) h = (listed view h.0, all_listed vs h.1)
 
@@ -136,7 +136,7 @@ module _ (v : Capabilities) (d : TextureDescriptor) where
   needs_alike view (inl same) = ap required_features_of (sym same)
   needs_alike view (inr twin) = sym ((row_law d.format).twin_needs view twin)
 
-  all_enabled : Enabled v d.format → (vs : List TextureFormat) → All (Compatible d.format) vs → All (Enabled v) vs
+  all_enabled : Enabled v d.format → (vs : List TextureFormat) → AllByRecursion (Compatible d.format) vs → AllByRecursion (Enabled v) vs
   all_enabled e [] h = tt
   all_enabled e (view ∷ vs) h = (subst (λ (n : ℕ). contains v.features n ≡ true) (needs_alike view h.0) e, all_enabled e vs h.1)
 
@@ -144,43 +144,43 @@ module _ (v : Capabilities) (d : TextureDescriptor) where
   empty [] h = refl
   empty (view ∷ vs) h = absurd (false≢true h)
 
-  module _ (w : WebGpuDevice v) (h : All Passes (create_checks v d)) where
-    shape : All Passes (shape_checks v d)
+  module _ (w : WebGpuDevice v) (h : AllByRecursion Passes (create_checks v d)) where
+    shape : AllByRecursion Passes (shape_checks v d)
     shape = front (shape_checks v d) (after_shape v d) h
 
-    mips : All Passes (mip_checks d)
+    mips : AllByRecursion Passes (mip_checks d)
     mips = front (mip_checks d) (after_mips v d) (back (shape_checks v d) (after_shape v d) h)
 
-    past_mips : All Passes (after_mips v d)
+    past_mips : AllByRecursion Passes (after_mips v d)
     past_mips = back (mip_checks d) (after_mips v d) (back (shape_checks v d) (after_shape v d) h)
 
-    formats : All Passes (format_checks v.features d)
+    formats : AllByRecursion Passes (format_checks v.features d)
     formats = front (format_checks v.features d) (after_format v d) past_mips
 
-    view_formats : All Passes (each_view_format d.format views)
+    view_formats : AllByRecursion Passes (each_view_format d.format views)
     view_formats =
         front (each_view_format d.format views) (downlevel_checks v.downlevel_flags d.format views)
         (back (format_checks v.features d) (after_format v d) past_mips)
 
-    past_usage : All Passes (after_usage v d)
+    past_usage : AllByRecursion Passes (after_usage v d)
     past_usage = back (usages d) (after_usage v d) shape
 
     sides : SizesPass d.dimension
     sides = front (map as_dimension (sizes v d)) (after_size v d) past_usage
 
-    past_size : All Passes (after_size v d)
+    past_size : AllByRecursion Passes (after_size v d)
     past_size = back (map as_dimension (sizes v d)) (after_size v d) past_usage
 
-    dims : All Passes (dimension_checks d)
+    dims : AllByRecursion Passes (dimension_checks d)
     dims = front (dimension_checks d) (after_dimension v d) past_size
 
-    cut : All Passes (sliced_checks v.features d)
+    cut : AllByRecursion Passes (sliced_checks v.features d)
     cut = back (block_checks d) (after_blocks v d) (back (dimension_checks d) (after_dimension v d) past_size)
 
-    lasting : All Passes (level_checks d)
+    lasting : AllByRecursion Passes (level_checks d)
     lasting = front (level_checks d) (transient_checks d) mips
 
-    passing : All Passes (transient_checks d)
+    passing : AllByRecursion Passes (transient_checks d)
     passing = back (level_checks d) (transient_checks d) mips
 
     enabled : Enabled v d.format
@@ -189,7 +189,7 @@ module _ (v : Capabilities) (d : TextureDescriptor) where
     plain : is_planar d.format ≡ false
     plain = non_planar w enabled
 
-    smooth : All Passes (multisample_checks v.features (row_of d.format).guaranteed.flags d)
+    smooth : AllByRecursion Passes (multisample_checks v.features (row_of d.format).guaranteed.flags d)
     smooth = front (multisample_checks v.features (row_of d.format).guaranteed.flags d) (format_usage_checks v.features d) formats.1
 
     usage_fits : difference d.usage (row_of d.format).guaranteed.allowed_usages ≡ 0
@@ -342,7 +342,7 @@ module _ (v : Capabilities) (d : TextureDescriptor) where
       ),
     )
 
-    usage_passes : All Passes (usages d)
+    usage_passes : AllByRecursion Passes (usages d)
     usage_passes = (
       or_from (eqb d.usage 0) (not (eqb (difference d.usage ALL_USAGES) 0)) (not_zero _ a.usage_not_empty)
           (not_from_true _ (eq-eqb _ _ (known d.usage (six_bits d.usage a.usage_known)))),
@@ -359,7 +359,7 @@ module _ (v : Capabilities) (d : TextureDescriptor) where
     packed_passes D2 r = refl
     packed_passes D3 r = refl
 
-    dimension_passes : All Passes (dimension_checks d)
+    dimension_passes : AllByRecursion Passes (dimension_checks d)
     dimension_passes = (
       depth_passes d.dimension a.dimension_rules,
       (
@@ -376,7 +376,7 @@ module _ (v : Capabilities) (d : TextureDescriptor) where
       ),
     )
 
-    blocks_pass : All Passes (block_checks d)
+    blocks_pass : AllByRecursion Passes (block_checks d)
     blocks_pass = (
       must_from (is_compressed d.format) (multiple_of (width d) (block_dimensions d.format).0) (λ _. eq-eqb _ _ a.whole_blocks_across),
       (
@@ -411,7 +411,7 @@ module _ (v : Capabilities) (d : TextureDescriptor) where
     family_passes (inl p) = and_left _ _ (not_from_true _ p.0)
     family_passes (inr p) = must_from _ _ (λ _. p.0)
 
-    sliced_passes : All Passes (sliced_checks v.features d)
+    sliced_passes : AllByRecursion Passes (sliced_checks v.features d)
     sliced_passes = (
       mustnt_from (is_sliced d) _ (λ p. bc_passes (sliceable p)),
       (
@@ -434,7 +434,7 @@ module _ (v : Capabilities) (d : TextureDescriptor) where
       unplanar : is_planar d.format ≡ false
       unplanar = non_planar w a.format_enabled
 
-      levels_pass : All Passes (level_checks d)
+      levels_pass : AllByRecursion Passes (level_checks d)
       levels_pass = (
         or_from (eqb (levels d) 0) (ltb (max_mips d.size d.dimension) (levels d)) (not_zero _ a.levels_positive)
             (le-ltb _ _ (level_bound d.dimension a.dimension_rules a.levels_within)),
@@ -447,7 +447,7 @@ module _ (v : Capabilities) (d : TextureDescriptor) where
         ),
       )
 
-      transient_passes : All Passes (transient_checks d)
+      transient_passes : AllByRecursion Passes (transient_checks d)
       transient_passes = (
         must_from (is_transient d) (eqb d.usage 48) (λ t. eq-eqb _ _ (a.transient_rules t).usage),
         (
@@ -472,7 +472,7 @@ module _ (v : Capabilities) (d : TextureDescriptor) where
             | inr four ↦ subst (λ (s : ℕ). sample_count_supported (row_of d.format).guaranteed.flags s ≡ true) (sym four) (multisample_rules_at m).format
           ]
 
-      multisample_passes : All Passes (multisample_checks v.features (row_of d.format).guaranteed.flags d)
+      multisample_passes : AllByRecursion Passes (multisample_checks v.features (row_of d.format).guaranteed.flags d)
       multisample_passes = (
         must_from (is_multisampled d) (eqb (levels d) 1) (λ m. eq-eqb _ _ (multisample_rules_at m).one_level),
         (
@@ -503,7 +503,7 @@ module _ (v : Capabilities) (d : TextureDescriptor) where
           (imp_from _ _ (λ t. (a.rendering t).0)) (imp_from _ _ a.storage))
           (λ t. (a.transient_rules t).usage))
 
-      format_passes : All Passes (format_checks v.features d)
+      format_passes : AllByRecursion Passes (format_checks v.features d)
       format_passes = (
         not_from_true _ a.format_enabled,
         both (multisample_checks v.features (row_of d.format).guaranteed.flags d) (format_usage_checks v.features d) multisample_passes
@@ -517,16 +517,16 @@ module _ (v : Capabilities) (d : TextureDescriptor) where
       view_passes view (inl same) = and_left _ _ (not_from_true _ (format_same view d.format same))
       view_passes view (inr twin) = must_from (not (same_format view d.format)) (is_twin d.format view) (λ _. this_is (twin_of d.format) view twin)
 
-      views_pass : (vs : List TextureFormat) → All (Compatible d.format) vs → All Passes (each_view_format d.format vs)
+      views_pass : (vs : List TextureFormat) → AllByRecursion (Compatible d.format) vs → AllByRecursion Passes (each_view_format d.format vs)
       views_pass [] h = tt
       views_pass (view ∷ vs) h = (view_passes view h.0, views_pass vs h.1)
 
-      view_formats_pass : All Passes (after_format v d)
+      view_formats_pass : AllByRecursion Passes (after_format v d)
       view_formats_pass =
           both (each_view_format d.format views) (downlevel_checks v.downlevel_flags d.format views) (views_pass views a.view_formats_compatible)
           (must_from (is_twin_listed d.format views) (contains v.downlevel_flags VIEW_FORMATS) (λ _. w.view_formats), tt)
 
-      pub checks_pass : All Passes (create_checks v d)
+      pub checks_pass : AllByRecursion Passes (create_checks v d)
       checks_pass =
           both (shape_checks v d) (after_shape v d)
           (both (usages d) (after_usage v d) usage_passes

@@ -1,6 +1,6 @@
 -- What WebGPU asks of a texture descriptor: conditions without an order, for the formats of the table.
 use Rattle.std.specs.Prelude.{◌≡◌, ℕ, ◌+◌, ◌%◌, ◌^◌, ◌<◌, ◌≤◌, true, false, ◌⊎◌, [], Some}
-use Rattle.std.specs.List.{AllByRecursion as All}
+use Rattle.std.specs.List.{AllByRecursion}
 use Rattle.types.specs.Bits.{contains, intersects}
 use Rattle.types.specs.Dimension.{is_1d, is_2d}
 use Rattle.types.specs.Extent.{largest_side}
@@ -121,7 +121,7 @@ LevelsWithin d D3 = (k : ℕ) × FloorLog2 (largest_side d.size D3) k × (levels
 
 pub record Accepts (device : Capabilities) (d : TextureDescriptor) : Type 0 where
   pub format_enabled : Enabled device d.format
-  pub view_formats_enabled : All (Enabled device) d.view_formats.now
+  pub view_formats_enabled : AllByRecursion (Enabled device) d.view_formats.now
   pub usage_not_empty : 0 < d.usage
   pub usage_known : contains WEBGPU_USAGES d.usage ≡ true
   pub width_positive : 0 < width d
@@ -137,4 +137,4 @@ pub record Accepts (device : Capabilities) (d : TextureDescriptor) : Type 0 wher
   pub rendering : Has d RENDER_ATTACHMENT → Renderable device d.format × (is_1d d.dimension ≡ false)
   pub storage : Has d STORAGE_BINDING → Storable device d.format
   pub transient_rules : Has d TRANSIENT_ATTACHMENT → TransientRules d
-  pub view_formats_compatible : All (Compatible d.format) d.view_formats.now
+  pub view_formats_compatible : AllByRecursion (Compatible d.format) d.view_formats.now

@@ -4,7 +4,7 @@ use Rattle.std.proofs.ByRecursion.{All-from_get_or, All-get_or, All-map}
 use Rattle.std.proofs.lemmas.List.{get_or-drop, get_or-map, get_or-take, length-drop, length-map, length-take-le, take-map, take_rest}
 use Rattle.std.proofs.lemmas.Bool.{cases_lt}
 use Rattle.std.specs.Str.Iter.{LacksByte}
-use Rattle.std.specs.List.{join_with_byte, AllByRecursion as All}
+use Rattle.std.specs.List.{join_with_byte, AllByRecursion}
 use Rattle.std.specs.Str.Parse.{IsNumeral, digits_value}
 use Rattle.replay.specs.Faults.{Decimal, NoAnswer, FormatsFault, NumbersFault, RequestFault, TextureFault, WordsFault, WritesAt, Fault}
 use Rattle.replay.specs.Lines.{Write, texts_of}
@@ -116,4 +116,4 @@ pub words_in_line : (text : List ℕ) (items words : List (Bor (List ℕ))) (d :
 words_in_line text items words d mark error plain joined lack same some first fault =
     let marked = mark_and_rest items words d mark same some first in
     let spaceless = All-map (LacksByte 32) (λ word. word.now) items (All-from_get_or (λ word. LacksByte 32 word.now) items d (λ k. lack k d)) in
-    (plain, inr (mark, texts_of (take (length words - 1) (drop 1 words)), joined ∙ ap (join_with_byte 32) marked, subst (All (LacksByte 32)) marked spaceless, fault))
+    (plain, inr (mark, texts_of (take (length words - 1) (drop 1 words)), joined ∙ ap (join_with_byte 32) marked, subst (AllByRecursion (LacksByte 32)) marked spaceless, fault))

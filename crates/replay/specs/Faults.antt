@@ -1,7 +1,7 @@
 -- Why a line of a file of answers cannot be read.
 use Rattle.std.specs.Prelude.{◌≡◌, ℕ, ◌+◌, ◌-◌, ◌^◌, ◌<◌, ◌≤◌, Bool, ◌⊎◌, List, [], ◌∷◌, length, codes, ◌≢◌, slice_index, slice_index_or}
 use Rattle.std.specs.Str.Iter.{LacksByte}
-use Rattle.std.specs.List.{join_with_byte, AllByRecursion as All}
+use Rattle.std.specs.List.{join_with_byte, AllByRecursion}
 use Rattle.std.specs.Str.Parse.{IsNumeral, digits_value}
 use Rattle.replay.specs.Lines.{answer_word}
 use Rattle.replay.specs.declared.parse.LineError.{LineError}
@@ -94,4 +94,4 @@ abbrev pub Fault : List ℕ → LineError → Type 0
 Fault text error =
     (slice_index text 0 ≢ 35)
     × ((error ≡ OutOfMemory)
-    ⊎ ((mark : List ℕ) × (fields : List (List ℕ)) × (text ≡ join_with_byte 32 (mark ∷ fields)) × All (LacksByte 32) (mark ∷ fields) × WordsFault mark fields error))
+    ⊎ ((mark : List ℕ) × (fields : List (List ℕ)) × (text ≡ join_with_byte 32 (mark ∷ fields)) × AllByRecursion (LacksByte 32) (mark ∷ fields) × WordsFault mark fields error))

@@ -1,7 +1,7 @@
 -- What a line of a file of answers says.
 use Rattle.std.specs.Prelude.{◌≡◌, ℕ, Bool, true, false, List, [], ◌∷◌, ◌++◌, map, length, vec_items, codes, slice_index}
 use Rattle.std.specs.Borrow.{Bor}
-use Rattle.std.specs.List.{join_with_byte, AllByRecursion as All}
+use Rattle.std.specs.List.{join_with_byte, AllByRecursion}
 use Rattle.std.specs.Str.Parse.{IsNumeral, digits_value}
 use Rattle.types.specs.Dimension.{dimension_code}
 use Rattle.types.specs.Format.{code_of}
@@ -16,7 +16,7 @@ texts_of words = map (λ word. word.now) words
 
 -- words of decimal digits, and the numbers that they write
 abbrev pub Write : List (List ℕ) → List ℕ → Type 0
-Write words numbers = All (IsNumeral 10) words × (map (digits_value 10) words ≡ numbers)
+Write words numbers = AllByRecursion (IsNumeral 10) words × (map (digits_value 10) words ≡ numbers)
 
 -- the numbers of a request, in the order of the line's fields
 abbrev pub numbers_of : TextureRequest → List ℕ

@@ -1,6 +1,6 @@
 -- The checks of a view by groups: what comes after each group, and what passes where all of them pass.
 use Rattle.std.proofs.Common.{◌≡◌, ℕ, List, ◌++◌, Ok, ◌∙◌}
-use Rattle.std.specs.List.{AllByRecursion as All}
+use Rattle.std.specs.List.{AllByRecursion}
 use Rattle.checks.proofs.Joins.{passes}
 use Rattle.checks.proofs.Passed.{Passes, front, back}
 use Rattle.checks.specs.Check.{Check, outcome}
@@ -47,33 +47,33 @@ module _ (features : ℕ) (t : Texture) (v : ResolvedView) where
             past_levels = passes (level_checks t v) after_levels tt levels ∙ past_dimension
 
   -- where all checks pass, those of each group do
-  module _ (h : All Passes (view_checks features t v)) where
-    rest_usage : All Passes after_usage
+  module _ (h : AllByRecursion Passes (view_checks features t v)) where
+    rest_usage : AllByRecursion Passes after_usage
     rest_usage = back (usage_checks t.usage v.usage) after_usage h
 
-    rest_ability : All Passes after_ability
+    rest_ability : AllByRecursion Passes after_ability
     rest_ability = back (ability_checks features v) after_ability rest_usage
 
-    rest_aspect : All Passes after_aspect
+    rest_aspect : AllByRecursion Passes after_aspect
     rest_aspect = back (aspect_checks t v) after_aspect rest_ability
 
-    rest_dimension : All Passes after_dimension
+    rest_dimension : AllByRecursion Passes after_dimension
     rest_dimension = back (dimension_checks features t v) after_dimension rest_aspect
 
-    pub usage_passes : All Passes (usage_checks t.usage v.usage)
+    pub usage_passes : AllByRecursion Passes (usage_checks t.usage v.usage)
     usage_passes = front (usage_checks t.usage v.usage) after_usage h
 
-    pub ability_passes : All Passes (ability_checks features v)
+    pub ability_passes : AllByRecursion Passes (ability_checks features v)
     ability_passes = front (ability_checks features v) after_ability rest_usage
 
-    pub aspect_passes : All Passes (aspect_checks t v)
+    pub aspect_passes : AllByRecursion Passes (aspect_checks t v)
     aspect_passes = front (aspect_checks t v) after_aspect rest_ability
 
-    pub dimension_passes : All Passes (dimension_checks features t v)
+    pub dimension_passes : AllByRecursion Passes (dimension_checks features t v)
     dimension_passes = front (dimension_checks features t v) after_dimension rest_aspect
 
-    pub levels_pass : All Passes (level_checks t v)
+    pub levels_pass : AllByRecursion Passes (level_checks t v)
     levels_pass = front (level_checks t v) after_levels rest_dimension
 
-    pub layers_pass : All Passes (layer_checks t v)
+    pub layers_pass : AllByRecursion Passes (layer_checks t v)
     layers_pass = back (level_checks t v) after_levels rest_dimension

@@ -12,7 +12,7 @@ returns c =
         dimension = t.dimension;
         format = t.format;
         usage = t.usage;
-        view_formats = c.as-slice.result;
+        view_formats = c.as_slice.result;
       },
       record {
         size = refl;
@@ -21,7 +21,7 @@ returns c =
         dimension = refl;
         format = refl;
         usage = refl;
-        views = c.as-slice.ensures.value;
+        views = c.as_slice.ensures.value;
       },
-      c.compare.ensures ∙ ap (λ r. verdict_of r c.args.answer.now.accepted) c.check-texture-descriptor.ensures.value,
+      c.compare.ensures ∙ ap (λ r. verdict_of r c.args.answer.now.accepted) c.check_texture_descriptor.ensures.value,
     )

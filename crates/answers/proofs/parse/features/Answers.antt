@@ -3,11 +3,11 @@ use Rattle.std.proofs.lemmas.List.{length-map}
 use Rattle.answers.proofs.Fields.{one_number}
 use Rattle.answers.proofs.parse.features.Goals as goal
 
-pub returns-in-default : goal.returns-in-default
-returns-in-default c = rw (length-map c.args.words.now (λ word. word.now)) (search rules)
+pub returns-in_default : goal.returns-in_default
+returns-in_default c = rw (length-map c.args.words.now (λ word. word.now)) (search rules)
 
-pub returns-in-default·2 : goal.returns-in-default·2
-returns-in-default·2 c = rw (length-map c.args.words.now (λ word. word.now)) (search rules)
+pub returns-in_default-2 : goal.returns-in_default-2
+returns-in_default-2 c = rw (length-map c.args.words.now (λ word. word.now)) (search rules)
 
 pub returns : goal.returns
 returns c =

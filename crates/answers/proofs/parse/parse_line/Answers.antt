@@ -11,22 +11,22 @@ use Rattle.answers.proofs.Faults.{hands_on}
 use Rattle.answers.proofs.Fields.{mark_and_rest, not_decided}
 use Rattle.answers.proofs.parse.parse_line.Goals as goal
 
-pub returns-in-err-words : goal.returns-in-err-words
-returns-in-err-words c =
+pub returns-in_err-words : goal.returns-in_err-words
+returns-in_err-words c =
     let text = c.args.text.now in
-    let plain = not_decided _ _ (starts_char 35 text c.starts-with.result c.starts-with.ensures.cases (lit< tt) (lit< tt)) c.if-starts-with.false in
-    hands_on c.from-residual.result _ (Fault text) OutOfMemory c.from-residual.ensures.1 (plain, inl refl)
+    let plain = not_decided _ _ (starts_char 35 text c.starts_with.result c.starts_with.ensures.cases (lit< tt) (lit< tt)) c.if-starts_with.false in
+    hands_on c.from_residual.result _ (Fault text) OutOfMemory c.from_residual.ensures.1 (plain, inl refl)
 
 pub returns : goal.returns
 returns c =
     let text = c.args.text.now in
-    let words = c.as-slice.result.now in
-    let items = vec_items c.in-ok-words.words in
-    let plain = not_decided _ _ (starts_char 35 text c.starts-with.result c.starts-with.ensures.cases (lit< tt) (lit< tt)) c.if-starts-with.false in
+    let words = c.as_slice.result.now in
+    let items = vec_items c.in_ok-words.words in
+    let plain = not_decided _ _ (starts_char 35 text c.starts_with.result c.starts_with.ensures.cases (lit< tt) (lit< tt)) c.if-starts_with.false in
     let joined : text ≡ join_with_byte 32 (texts_of items) = search (rules, chains) in
     let lack : (k : ℕ) (d : Bor (List ℕ)) → k < length items → LacksByte 32 (get_or items k d).now = search (rules, chains) in
     let some : 1 ≤ length words = search rules in
-    let parts = mark_and_rest text items words _ joined lack c.as-slice.ensures.value some in
-    MatchResult-weaker c.marked-line.result c.marked-line.ensures
+    let parts = mark_and_rest text items words _ joined lack c.as_slice.ensures.value some in
+    MatchResult-weaker c.marked_line.result c.marked_line.ensures
     (λ line said. inr (plain, (_, _, parts, said)))
     (λ error fault. (plain, inr (_, _, parts, fault)))

@@ -9,15 +9,15 @@ pub returns : goal.returns
 returns c =
     let long : 9 ≤ length c.args.numbers.now = search rules in
     request_numbers c.args.numbers.now _ _ _ _ long
-    c.in-ok-texture-dimension.ensures
-    c.in-ok-texture-format.ensures
-    (sym (length-map (vec_items c.in-ok-texture-formats.field-0) code_of))
-    c.in-ok-texture-formats.ensures
-    c.if-count-view-formats.false
+    c.in_ok-texture_dimension.ensures
+    c.in_ok-texture_format.ensures
+    (sym (length-map (vec_items c.in_ok-texture_formats.field-0) code_of))
+    c.in_ok-texture_formats.ensures
+    c.if-count-view_formats.false
 
-pub returns-in-err-texture-formats : goal.returns-in-err-texture-formats
-returns-in-err-texture-formats c =
+pub returns-in_err-texture_formats : goal.returns-in_err-texture_formats
+returns-in_err-texture_formats c =
     let long : 9 ≤ length c.args.numbers.now = search rules in
-    hands_on c.from-residual-in-err-texture-formats.result _ _ c.in-err-texture-formats.field-0.0
-    c.from-residual-in-err-texture-formats.ensures.1
-    (formats_in_request c.args.numbers.now _ long c.in-err-texture-formats.ensures)
+    hands_on c.from_residual-in_err-texture_formats.result _ _ c.in_err-texture_formats.field-0.0
+    c.from_residual-in_err-texture_formats.ensures.1
+    (formats_in_request c.args.numbers.now _ long c.in_err-texture_formats.ensures)

@@ -4,6 +4,6 @@ use Rattle.view_checks.proofs.selection.select_alike.Goals as goal
 pub returns : goal.returns
 returns c =
     record {
-      parts = c.same-parts.ensures;
-      triples = λ features others t of-a of-b. triples_decided c.args.a.now c.args.b.now features others t of-a of-b _ c.same-parts.ensures;
+      parts = c.same_parts.ensures;
+      triples = λ features others t of-a of-b. triples_decided c.args.a.now c.args.b.now features others t of-a of-b _ c.same_parts.ensures;
     }
