@@ -57,15 +57,15 @@ module _ (v : Capabilities) (d : TextureDescriptor) where
       let m : s ≤ 1 = ltb-false 1 s (or_parts (ltb 1 s) rest p.1).0 in
       omega (arith, l, m)
 
-  slices : (compressed bcn astc bc-on astc-on : Bool)
-      → ((true && compressed) && (bcn && not bc-on)) ≡ false
-      → ((true && compressed) && (astc && not astc-on)) ≡ false
+  slices : (compressed bcn astc bc_on astc_on : Bool)
+      → ((true && compressed) && (bcn && not bc_on)) ≡ false
+      → ((true && compressed) && (astc && not astc_on)) ≡ false
       → ((true && compressed) && (not bcn && not astc)) ≡ false
-      → compressed ≡ true → ((bcn ≡ true) × (bc-on ≡ true)) ⊎ ((astc ≡ true) × (astc-on ≡ true))
-  slices true true astc bc-on astc-on p q r h = inl (refl, must true bc-on p refl)
-  slices true false true bc-on astc-on p q r h = inr (refl, must true astc-on q refl)
-  slices true false false bc-on astc-on p q r h = absurd (true≢false r)
-  slices false bcn astc bc-on astc-on p q r h = absurd (false≢true h)
+      → compressed ≡ true → ((bcn ≡ true) × (bc_on ≡ true)) ⊎ ((astc ≡ true) × (astc_on ≡ true))
+  slices true true astc bc_on astc_on p q r h = inl (refl, must true bc_on p refl)
+  slices true false true bc_on astc_on p q r h = inr (refl, must true astc_on q refl)
+  slices true false false bc_on astc_on p q r h = absurd (true≢false r)
+  slices false bcn astc bc_on astc_on p q r h = absurd (false≢true h)
 
   abbrev Slices : TextureDimension → Type 0
   Slices dim =
@@ -75,28 +75,28 @@ module _ (v : Capabilities) (d : TextureDescriptor) where
 
   rules_from : (dim : TextureDimension) → SizesPass dim → (not (is_2d dim) && is_depth_stencil d.format) ≡ false
       → (is_1d dim && is_compressed d.format) ≡ false → Slices dim → DimensionRules v d dim
-  rules_from D1 s depth-stencil compressed sliced =
+  rules_from D1 s depth_stencil compressed sliced =
       record {
         width_limit = ltb-false _ _ s.1.0;
         one_row = (let l : 0 < height d = positive _ s.1.1.0 in let m : height d ≤ 1 = ltb-false _ _ s.1.1.1.0 in omega (arith, l, m));
         one_slice = (let l : 0 < depth d = positive _ s.1.1.1.1.0 in let m : depth d ≤ 1 = ltb-false _ _ s.1.1.1.1.1.0 in omega (arith, l, m));
         one_sample = one_of (samples d) (not (eqb (ones (samples d)) 1)) s.1.1.1.1.1.1.0;
         not_compressed = compressed;
-        no_depth_stencil = depth-stencil;
+        no_depth_stencil = depth_stencil;
       }
-  rules_from D2 s depth-stencil compressed sliced =
+  rules_from D2 s depth_stencil compressed sliced =
       record {
         width_limit = ltb-false _ _ s.1.0;
         height_limit = ltb-false _ _ s.1.1.1.0;
         layer_limit = ltb-false _ _ s.1.1.1.1.1.0;
       }
-  rules_from D3 s depth-stencil compressed sliced =
+  rules_from D3 s depth_stencil compressed sliced =
       record {
         width_limit = ltb-false _ _ s.1.0;
         height_limit = ltb-false _ _ s.1.1.1.0;
         depth_limit = ltb-false _ _ s.1.1.1.1.1.0;
         one_sample = one_of (samples d) (not (eqb (ones (samples d)) 1)) s.1.1.1.1.1.1.0;
-        no_depth_stencil = depth-stencil;
+        no_depth_stencil = depth_stencil;
         compressed =
             slices (is_compressed d.format) (is_bcn d.format) (is_astc d.format) (contains v.features BC_SLICED_3D)
             (contains v.features ASTC_SLICED_3D) sliced.0 sliced.1 sliced.2;

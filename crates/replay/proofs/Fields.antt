@@ -1,5 +1,5 @@
 -- Words and numbers of a line, taken apart and put together.
-use Rattle.std.proofs.Common.{◌≡◌, ℕ, ◌+◌, ◌-◌, ◌<◌, ◌≤◌, Bool, true, false, List, [], ◌∷◌, ◌++◌, map, length, get_or, take, drop, Ok, Err, Decides, Result, sym, refl, ap, ◌∙◌, subst, arith, Bor, MatchResult}
+use Rattle.std.proofs.Common.{◌≡◌, ℕ, ◌+◌, ◌-◌, ◌<◌, ◌≤◌, Bool, true, false, List, [], ◌∷◌, ◌++◌, length, get_or, take, drop, Ok, Err, Decides, Result, sym, refl, ap, ◌∙◌, subst, arith, Bor, MatchResult}
 use Rattle.std.proofs.ByRecursion.{All-push}
 use Rattle.std.proofs.lemmas.List.{drop_more, map_more, map_push, take_all, take_rest}
 use Rattle.std.specs.Str.Parse.{IsNumeral, digits_value}

@@ -26,9 +26,9 @@ abbrev is : Option TextureFormat → TextureFormat → Bool
 is None f = false
 is (Some g) f = same_format g f
 
-is_some : (o : Option TextureFormat) (f : TextureFormat) → is o f ≡ true → o ≡ Some f
-is_some None f h = absurd (false≢true h)
-is_some (Some g) f h = ap Some (same_format_lem g f h)
+is_lem : (o : Option TextureFormat) (f : TextureFormat) → is o f ≡ true → o ≡ Some f
+is_lem None f h = absurd (false≢true h)
+is_lem (Some g) f h = ap Some (same_format_lem g f h)
 
 abbrev twin_tests : TextureFormat → TextureFormat → List Bool
 twin_tests f t =
@@ -71,7 +71,7 @@ module _ (f : TextureFormat) where
   pub row_law : RowLaw f
   row_law =
       record {
-        twin_back = λ t e. is_some (twin_of t) f (twin t e 0 (lit< tt));
+        twin_back = λ t e. is_lem (twin_of t) f (twin t e 0 (lit< tt));
         twin_block = λ t e. pair (eqb-true _ _ (twin t e 1 (lit< tt))) (eqb-true _ _ (twin t e 2 (lit< tt)));
         twin_aspects = λ t e. eqb-true _ _ (twin t e 3 (lit< tt));
         twin_needs = λ t e. eqb-true _ _ (twin t e 4 (lit< tt));

@@ -54,7 +54,7 @@ module _ (device : Capabilities) (t : Texture) (d : TextureViewDescriptor) where
         value = value;
         view = view;
         only = one_view r view;
-        webgpu = λ no-arrays. decided device t (resolved t d) no-arrays r value;
+        webgpu = λ no_arrays. decided device t (resolved t d) no_arrays r value;
         laws = laws r value view;
       }
 

@@ -38,7 +38,7 @@ bit_alike true y f g = sym (f refl)
 bit_alike false true f g = g refl
 bit_alike false false f g = refl
 
-module _ (a b : ℕ) (few-a : a < 32) (few-b : b < 32) (to : (aspect : Aspect) → Holds a aspect → Holds b aspect) (from : (aspect : Aspect) → Holds b aspect → Holds a aspect) where
+module _ (a b : ℕ) (few_a : a < 32) (few_b : b < 32) (to : (aspect : Aspect) → Holds a aspect → Holds b aspect) (from : (aspect : Aspect) → Holds b aspect → Holds a aspect) where
   bit : (aspect : Aspect) → contains a (bit_of aspect) ≡ contains b (bit_of aspect)
   bit aspect = bit_alike (contains a (bit_of aspect)) (contains b (bit_of aspect)) (to aspect) (from aspect)
 
@@ -47,7 +47,7 @@ module _ (a b : ℕ) (few-a : a < 32) (few-b : b < 32) (to : (aspect : Aspect) �
       let g : gathered a ≡ gathered b =
       λ i. cond (bit colour i) 1 0 + cond (bit depth i) 2 0 + cond (bit stencil i) 4 0 + cond (bit plane_0 i) 8 0 + cond (bit plane_1 i) 16 0
       in
-      gathers a few-a ∙ g ∙ sym (gathers b few-b)
+      gathers a few_a ∙ g ∙ sym (gathers b few_b)
 
 -- a set of some bits holds one of them
 abbrev lowest : ℕ → Aspect
@@ -134,30 +134,30 @@ module _ (a b : TextureView) where
     },
   )
 
-  module _ (features others : ℕ) (t : Texture) (of-a : ViewOf features t a) (of-b : ViewOf others t b) where
+  module _ (features others : ℕ) (t : Texture) (of_a : ViewOf features t a) (of_b : ViewOf others t b) where
     pub parts_from : SameTriples a b → SameParts a b
     parts_from same =
-        let α = held features t a of-a in
-        let β = held others t b of-b in
-        let first-a = (same a.mips.first a.layers.first (own features t a of-a)).0 (at_first a (own features t a of-a) α) in
-        let last-a = (same (a.mips.end - 1) (a.layers.end - 1) (own features t a of-a)).0 (at_last a (own features t a of-a) α) in
-        let first-b = (same b.mips.first b.layers.first (own others t b of-b)).1 (at_first b (own others t b of-b) β) in
-        let last-b = (same (b.mips.end - 1) (b.layers.end - 1) (own others t b of-b)).1 (at_last b (own others t b of-b) β) in
-        let levels-a = a.mips.forward in
-        let levels-b = b.mips.forward in
-        let layers-a = a.layers.forward in
-        let layers-b = b.layers.forward in
+        let α = held features t a of_a in
+        let β = held others t b of_b in
+        let first_a = (same a.mips.first a.layers.first (own features t a of_a)).0 (at_first a (own features t a of_a) α) in
+        let last_a = (same (a.mips.end - 1) (a.layers.end - 1) (own features t a of_a)).0 (at_last a (own features t a of_a) α) in
+        let first_b = (same b.mips.first b.layers.first (own others t b of_b)).1 (at_first b (own others t b of_b) β) in
+        let last_b = (same (b.mips.end - 1) (b.layers.end - 1) (own others t b of_b)).1 (at_last b (own others t b of_b) β) in
+        let levels_a = a.mips.forward in
+        let levels_b = b.mips.forward in
+        let layers_a = a.layers.forward in
+        let layers_b = b.layers.forward in
         record {
           levels =
-              same_range a.mips b.mips (omega (arith, first-a.level_from, first-b.level_from))
-              (omega (arith, levels-a, levels-b, last-a.level_before, last-b.level_before))
-              (of-a.2.mips.of_total ∙ sym of-b.2.mips.of_total);
+              same_range a.mips b.mips (omega (arith, first_a.level_from, first_b.level_from))
+              (omega (arith, levels_a, levels_b, last_a.level_before, last_b.level_before))
+              (of_a.2.mips.of_total ∙ sym of_b.2.mips.of_total);
           layers =
-              same_range a.layers b.layers (omega (arith, first-a.layer_from, first-b.layer_from))
-              (omega (arith, layers-a, layers-b, last-a.layer_before, last-b.layer_before))
-              (of-a.2.layers.of_total ∙ sym of-b.2.layers.of_total);
+              same_range a.layers b.layers (omega (arith, first_a.layer_from, first_b.layer_from))
+              (omega (arith, layers_a, layers_b, last_a.layer_before, last_b.layer_before))
+              (of_a.2.layers.of_total ∙ sym of_b.2.layers.of_total);
           aspects =
-              same_set a.aspects b.aspects (few features t a of-a) (few others t b of-b)
+              same_set a.aspects b.aspects (few features t a of_a) (few others t b of_b)
               (λ aspect h. ((same a.mips.first a.layers.first aspect).0 (at_first a aspect h)).aspect_in)
               (λ aspect h. ((same b.mips.first b.layers.first aspect).1 (at_first b aspect h)).aspect_in);
         }

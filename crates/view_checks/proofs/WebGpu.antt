@@ -108,11 +108,11 @@ viewed Cube of h = eq-eqb _ _ (ap dimension_code h)
 viewed CubeArray of h = eq-eqb _ _ (ap dimension_code h)
 viewed D3 of h = eq-eqb _ _ (ap dimension_code h)
 
-module _ (features : ℕ) (no-arrays : contains features MULTISAMPLE_ARRAY ≡ false) where
+module _ (features : ℕ) (no_arrays : contains features MULTISAMPLE_ARRAY ≡ false) where
   one_image : (dim : TextureViewDimension) → can_be_multisampled features dim ≡ true → dim ≡ D2
   one_image D1 h = absurd (false≢true h)
   one_image D2 h = refl
-  one_image D2Array h = absurd (false≢true (sym no-arrays ∙ h))
+  one_image D2Array h = absurd (false≢true (sym no_arrays ∙ h))
   one_image Cube h = absurd (false≢true h)
   one_image CubeArray h = absurd (false≢true h)
   one_image D3 h = absurd (false≢true h)
@@ -157,7 +157,7 @@ sides_pass D3 size h = refl
 
 -- ---- both ways
 
-module _ (device : Capabilities) (t : Texture) (v : ResolvedView) (no-arrays : contains device.features MULTISAMPLE_ARRAY ≡ false) where
+module _ (device : Capabilities) (t : Texture) (v : ResolvedView) (no_arrays : contains device.features MULTISAMPLE_ARRAY ≡ false) where
   abbrev allowed : ℕ
   allowed = (row_of v.format).guaranteed.allowed_usages
 
@@ -181,7 +181,7 @@ module _ (device : Capabilities) (t : Texture) (v : ResolvedView) (no-arrays : c
         levels_within = ltb-false _ _ levels.1.0;
         layers_positive = positive _ layers.0;
         layers_within = ltb-false _ _ layers.1.0;
-        one_image_if_multisampled = λ several. one_image device.features no-arrays v.dimension
+        one_image_if_multisampled = λ several. one_image device.features no_arrays v.dimension
             (must (ltb 1 t.sample_count) (can_be_multisampled device.features v.dimension) dimensions.0 (lt-ltb _ _ several));
         dimension = views v.dimension t.dimension (not-false _ dimensions.1.0);
         layers = counts_from v.dimension v.array_layer_count (dimensions.1.1.0, dimensions.1.1.1.0, dimensions.1.1.1.1.0);

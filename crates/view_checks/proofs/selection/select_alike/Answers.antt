@@ -5,5 +5,5 @@ pub returns : goal.returns
 returns c =
     record {
       parts = c.same_parts.ensures;
-      triples = λ features others t of-a of-b. triples_decided c.args.a.now c.args.b.now features others t of-a of-b _ c.same_parts.ensures;
+      triples = λ features others t of_a of_b. triples_decided c.args.a.now c.args.b.now features others t of_a of_b _ c.same_parts.ensures;
     }
