@@ -36,4 +36,4 @@ VIEW_FORMATS = 1
 
 -- nothing is missing where the device has all of these features; else the refusal names them all
 abbrev pub required : ℕ → ℕ → Result Unit MissingFeatures
-required device features = cond (contains device features) (Ok tt) (Err (record { 0 = features }))
+required device features = cond (contains device features) (Ok tt) (Err (record { 0 = record { 0 = features } }))

@@ -13,7 +13,7 @@ use Rattle.types.specs.declared.format.TextureFormat.TheVariants.{R8Unorm, Rg8Un
 use Rattle.types.specs.declared.format_features.TextureFormatFeatures.{TextureFormatFeatures}
 
 abbrev pub aspects_of : TextureFormat → ℕ
-aspects_of f = (row_of f).aspects
+aspects_of f = (row_of f).aspects.0
 
 -- what a format has of the aspect that is wanted
 abbrev pub selected_aspects : TextureFormat → TextureAspect → ℕ
@@ -23,7 +23,7 @@ abbrev pub twin_of : TextureFormat → Option TextureFormat
 twin_of f = (row_of f).twin
 
 abbrev pub required_features_of : TextureFormat → ℕ
-required_features_of f = (row_of f).required_features
+required_features_of f = (row_of f).required_features.0
 
 -- block width and block height
 abbrev pub block_dimensions : TextureFormat → ℕ × ℕ
@@ -75,4 +75,4 @@ guaranteed_features f features = (row_of f).guaranteed
 -- the format's row once the feature that it needs is on, else what is missing
 abbrev pub described_features : ℕ → TextureFormat → Result TextureFormatFeatures MissingFeatures
 described_features features f =
-    cond (contains features (required_features_of f)) (Ok (guaranteed_features f features)) (Err (record { 0 = required_features_of f }))
+    cond (contains features (required_features_of f)) (Ok (guaranteed_features f features)) (Err (record { 0 = record { 0 = required_features_of f } }))

@@ -77,7 +77,7 @@ clearing_use usage format dimension allowed =
 
 abbrev pub texture_uses : ℕ → TextureFormat → TextureDimension → TextureFormatFeatures → ℕ
 texture_uses usage format dimension features =
-    bit_or (host_uses usage (aspects_of format) features.flags) (clearing_use usage format dimension features.allowed_usages)
+    bit_or (host_uses usage (aspects_of format) features.flags.0) (clearing_use usage format dimension features.allowed_usages.0)
 
 -- A texture can always be cleared: depth and stencil by writing them, anything else by a copy or by rendering.
 abbrev pub Clearable : TextureFormat → ℕ → Type 0

@@ -2,6 +2,7 @@
 use crate::dimension::TextureDimension;
 use crate::extent::Extent3d;
 use crate::format::TextureFormat;
+use crate::usages::TextureUsages;
 
 #[derive(Clone, Copy)]
 pub struct TextureDescriptor<'a> {
@@ -10,7 +11,7 @@ pub struct TextureDescriptor<'a> {
     pub sample_count: u32,
     pub dimension: TextureDimension,
     pub format: TextureFormat,
-    pub usage: u32,
+    pub usage: TextureUsages,
     // the other formats that views of the texture may have
     pub view_formats: &'a [TextureFormat],
 }

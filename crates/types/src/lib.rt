@@ -5,6 +5,7 @@
 pub mod aspect;
 pub mod bits;
 pub mod capabilities;
+pub mod code;
 pub mod conv;
 pub mod descriptor;
 pub mod dimension;
