@@ -1,5 +1,6 @@
 // What a device can do, as far as requests are checked against it.
-use crate::features::{DownlevelFlags, Features};
+use crate::downlevel_flags::DownlevelFlags;
+use crate::features::Features;
 use crate::limits::Limits;
 
 #[derive(Clone, Copy, Debug, PartialEq, Eq)]
