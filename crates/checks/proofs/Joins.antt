@@ -92,22 +92,3 @@ lifted_ok (c ∷ cs) u h =
 pub broke_size : (cs : List (Check TextureDimensionError)) (rest : List (Check CreateTextureError)) (r : Result Unit CreateTextureError) (e : TextureDimensionError)
     → IsErrAnd r (λ y. y ≡ InvalidDimension e) → Err e ≡ outcome cs → r ≡ outcome (map as_dimension cs ++ rest)
 broke_size cs rest r e q h = broke (map as_dimension cs) rest r (InvalidDimension e) q (lifted_err cs e h)
-
--- a format that was described has its feature, and is what its row says
-with_feature : (b : Bool) (row g : TextureFormatFeatures) (m : Missing) (e : CreateTextureError) → Ok row ≡ cond b (Ok g) (Err m)
-    → ◌≡◌ {A = Result Unit CreateTextureError} (Ok tt) (cond (not b) (Err e) (Ok tt))
-with_feature true row g m e h = refl
-with_feature false row g m e h = absurd (ok_not_err h)
-
-with_row : (b : Bool) (row g : TextureFormatFeatures) (m : Missing) → Ok row ≡ cond b (Ok g) (Err m) → row ≡ g
-with_row true row g m h = cc
-with_row false row g m h = absurd (ok_not_err h)
-
-module _ (features : ℕ) (f : TextureFormat) (row : TextureFormatFeatures) (h : Ok row ≡ described_features features f) where
-  pub described_feature : Ok tt ≡ outcome (feature_checks features f (required_features_of f))
-  described_feature =
-      with_feature (contains features (required_features_of f)) row (guaranteed_features f features) (record { 0 = required_features_of f })
-      (MissingFeatures f (record { 0 = required_features_of f })) h
-
-  pub described_row : row ≡ guaranteed_features f features
-  described_row = with_row (contains features (required_features_of f)) row (guaranteed_features f features) (record { 0 = required_features_of f }) h

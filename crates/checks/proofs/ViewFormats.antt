@@ -83,9 +83,9 @@ module _ (flags : ℕ) (f : TextureFormat) (views : List TextureFormat) where
   has true false e (inr q) = absurd (false≢true q)
 
   pub lacks_flag : is_twin_listed f views ≡ true → contains flags VIEW_FORMATS ≡ false
-      → Err (MissingDownlevelFlags (record { 0 = VIEW_FORMATS })) ≡ answered (downlevel_checks flags f views) (is_twin_listed f views)
+      → Err (MissingDownlevelFlags (record { 0 = record { 0 = VIEW_FORMATS } })) ≡ answered (downlevel_checks flags f views) (is_twin_listed f views)
   lacks_flag p q = lacks (is_twin_listed f views) (contains flags VIEW_FORMATS) (is_twin_listed f views) _ p q
 
   pub has_flag : (t : Bool) → t ≡ is_twin_listed f views → (is_twin_listed f views ≡ false) ⊎ (contains flags VIEW_FORMATS ≡ true)
       → Ok t ≡ answered (downlevel_checks flags f views) (is_twin_listed f views)
-  has_flag t v h = ap Ok v ∙ has (is_twin_listed f views) (contains flags VIEW_FORMATS) (MissingDownlevelFlags (record { 0 = VIEW_FORMATS })) h
+  has_flag t v h = ap Ok v ∙ has (is_twin_listed f views) (contains flags VIEW_FORMATS) (MissingDownlevelFlags (record { 0 = record { 0 = VIEW_FORMATS } })) h

@@ -6,7 +6,7 @@ use Rattle.checks.specs.ClearViews.{clear_views_needed}
 pub returns : goal.returns
 returns c =
     let d = c.args.desc.now in
-    let uses = c.args.hal_usage in
+    let uses = c.args.hal_usage.0 in
     let short : d.size.depth_or_array_layers ≤ 2 ^ 32 = omega arith in
     let e : c.saturating_mul.result ≡ min (clear_views_needed d uses) (2 ^ 64 - 1) = search rules in
     record { value = e; exact = counted d uses short _ e }
