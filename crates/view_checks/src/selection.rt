@@ -1,10 +1,8 @@
 // Whether two views select the same of a texture.
 ghost use Rattle.std.specs.Prelude.{◌≡◌, ℕ, Decides};
-ghost use Rattle.types.specs.declared.range.Range.{Range};
 ghost use Rattle.types.specs.declared.texture.Texture.{Texture};
 ghost use Rattle.view_checks.specs.Selection.{SameParts, SameTriples, ViewOf};
 
-use types::range::Range;
 use types::view::TextureView;
 
 // Whether the level ranges, the layer ranges and the aspect sets are equal. For two accepted views of one texture that is
@@ -19,11 +17,5 @@ pub fn select_alike(a: &TextureView, b: &TextureView) -> bool
 fn same_parts(a: &TextureView, b: &TextureView) -> bool
     ensures { Decides result (SameParts a.now b.now) }
 {
-    same_range(a.mips, b.mips) && same_range(a.layers, b.layers) && a.aspects == b.aspects
-}
-
-fn same_range(a: Range, b: Range) -> bool
-    ensures { Decides result (a ≡ b) }
-{
-    a.first == b.first && a.end == b.end && a.total == b.total
+    a.mips == b.mips && a.layers == b.layers && a.aspects == b.aspects
 }
