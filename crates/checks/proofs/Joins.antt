@@ -1,16 +1,11 @@
 -- Groups of checks, one after the other: where a group refuses, so does the whole; where it does not, the rest decides.
-use Rattle.std.proofs.Common.{◌≡◌, ℕ, Bool, true, false, cond, not, List, [], ◌∷◌, ◌++◌, map, IsErrAnd, IfOk, Ok, Err, Result, refl, ap, ◌∙◌}
+use Rattle.std.proofs.Common.{◌≡◌, true, false, cond, List, [], ◌∷◌, ◌++◌, map, IsErrAnd, IfOk, Ok, Err, Result, refl, ap, ◌∙◌}
 use Rattle.checks.proofs.Apart.{ok_not_err, err_not_ok}
 use Rattle.checks.specs.Check.{Check, outcome, answered, and_then, as_outcome}
-use Rattle.checks.specs.Checks.{as_dimension, feature_checks}
+use Rattle.checks.specs.Checks.{as_dimension}
 use Rattle.checks.specs.declared.error.CreateTextureError.{CreateTextureError}
-use Rattle.checks.specs.declared.error.CreateTextureError.TheVariants.{InvalidDimension, MissingFeatures}
+use Rattle.checks.specs.declared.error.CreateTextureError.TheVariants.{InvalidDimension}
 use Rattle.checks.specs.declared.error.TextureDimensionError.{TextureDimensionError}
-use Rattle.types.specs.Bits.{contains}
-use Rattle.types.specs.Formats.{required_features_of, guaranteed_features, described_features}
-use Rattle.types.specs.declared.features.MissingFeatures.{MissingFeatures as Missing}
-use Rattle.types.specs.declared.format.TextureFormat.{TextureFormat}
-use Rattle.types.specs.declared.format_features.TextureFormatFeatures.{TextureFormatFeatures}
 
 module _ {E : Type 0} where
   pub stops : (a rest : List (Check E)) (e : E) → Err e ≡ outcome a → Err e ≡ outcome (a ++ rest)

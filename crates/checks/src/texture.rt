@@ -1,5 +1,5 @@
 // The checks of a texture request, one group after the other: the first refusal is the answer.
-ghost use Rattle.std.specs.Prelude.{◌≡◌, not, Decides};
+ghost use Rattle.std.specs.Prelude.{◌≡◌, ◌↔◌, not, IsTrue};
 ghost use Rattle.checks.specs.Check.{outcome, answered};
 ghost use Rattle.checks.specs.Checks.{feature_checks, shape_checks, mip_checks, format_checks, create_checks, is_twin_listed};
 ghost use Rattle.checks.specs.Refusals.{refused_by};
@@ -29,7 +29,7 @@ pub fn check_texture_descriptor(
     desc: &TextureDescriptor,
 ) -> Result<bool, CreateTextureError>
     ensures value { result ≡ answered (create_checks device.now desc.now) (is_twin_listed desc.now.format desc.now.view_formats.now) }
-    ensures webgpu { WebGpuDevice device.now → Decides (not (refused_by 3 27 result)) (Accepts device.now desc.now) }
+    ensures webgpu { WebGpuDevice device.now → IsTrue (not (refused_by 3 27 result)) ↔ Accepts device.now desc.now }
 {
     check_shape(device, desc)?;
     check_mips(desc)?;

@@ -85,8 +85,6 @@ fn clearing_use(desc: &TextureDescriptor, allowed_usages: Usages) -> Uses
 }
 
 // A theorem: whatever was asked for, the host is told a use by which the texture can be cleared.
-pub fn textures_can_be_cleared() -> u8
+pub fn textures_can_be_cleared()
     ensures { (usage : ℕ) (format : TextureFormat) (dimension : TextureDimension) (features : TextureFormatFeatures) → Clearable format (texture_uses usage format dimension features) }
-{
-    0
-}
+{}

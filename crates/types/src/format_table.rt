@@ -303,8 +303,6 @@ impl TextureFormat {
 }
 
 // A theorem: what holds of every row.
-pub fn rows_agree() -> u8
+pub fn rows_agree()
     ensures { (format : TextureFormat) → RowLaw format }
-{
-    0
-}
+{}
