@@ -1,7 +1,7 @@
 -- A range is known by its numbers.
 use mathlib.Core.HLevel.{is_prop→PathP}
-use Rattle.std.proofs.Common.{◌≡◌, ◌<◌, ◌≤◌, Bool, true, ◌&&◌, eqb, ap, eq-eqb}
-use Rattle.std.proofs.lemmas.Bool.{and_from, and_parts, eqb-true}
+use Rattle.std.proofs.Common.{◌≡◌, ◌<◌, ◌≤◌, Bool, true, ◌&&◌, eqb}
+use Rattle.std.proofs.lemmas.Bool.{and_parts, eqb-true}
 use native.Mathlib.Bridge.{le_prop}
 use Rattle.types.specs.declared.range.Range.{Range}
 
@@ -23,8 +23,3 @@ range_from_tests a b h =
     let first = and_parts _ _ h in
     let rest = and_parts _ _ first.1 in
     same_range a b (eqb-true _ _ first.0) (eqb-true _ _ rest.0) (eqb-true _ _ rest.1)
-
-pub tests_from_range : (a b : Range) → a ≡ b → tests a b ≡ true
-tests_from_range a b e =
-    and_from _ _ (eq-eqb _ _ (ap (λ (r : Range). r.first) e))
-    (and_from _ _ (eq-eqb _ _ (ap (λ (r : Range). r.end) e)) (eq-eqb _ _ (ap (λ (r : Range). r.total) e)))

@@ -59,6 +59,7 @@ pub(crate) fn check_aspect(
 }
 
 // All aspects are viewed in the texture's format or in its twin, if that was listed; one aspect in its part of the format.
+#[tactic(auto, using(types::proofs::SameFormat::same_tags))]
 fn format_is_good(texture: &Texture, aspect: TextureAspect, format: TextureFormat) -> bool
     ensures { result ≡ format_fits texture.now aspect format }
 {

@@ -3,18 +3,10 @@ use Rattle.checks.proofs.Joins.{refused_answer, passed_answer, value_answer}
 use Rattle.types.specs.Formats.{guaranteed_features}
 use Rattle.types.specs.declared.format_features.TextureFormatFeatures.{TextureFormatFeatures}
 use Rattle.view_checks.proofs.Answer.{refused, accepted}
-use Rattle.view_checks.proofs.Groups.{after_usage, after_ability, after_aspect, after_dimension, after_levels, past_usage, past_ability, past_aspect, past_dimension, past_levels}
+use Rattle.view_checks.proofs.Groups.{after_ability, after_aspect, after_dimension, after_levels, past_usage, past_ability, past_aspect, past_dimension, past_levels}
 use Rattle.view_checks.proofs.view.check_view_descriptor.Goals as goal
-use Rattle.view_checks.specs.Checks.{ability_checks, aspect_checks, dimension_checks, layer_checks, level_checks, usage_checks}
+use Rattle.view_checks.specs.Checks.{ability_checks, aspect_checks, dimension_checks, layer_checks, level_checks}
 use Rattle.view_checks.specs.Views.{view_uses}
-
-pub returns-in_err-check_usage : goal.returns-in_err-check_usage
-returns-in_err-check_usage c =
-    let v = c.resolve_view_descriptor-view.result in
-    let t = c.args.texture.now in
-    let n = c.args.device.now.features.0 in
-    refused c.args.device.now t c.args.desc.now v c.resolve_view_descriptor-view.ensures _ (usage_checks t.usage v.usage) (after_usage n t v) _
-    c.from_residual.ensures.1 c.in_err-check_usage.ensures refl
 
 pub returns-in_err-format_features : goal.returns-in_err-format_features
 returns-in_err-format_features c =
