@@ -1,31 +1,32 @@
 // How large a view is when it is rendered to, or why it cannot be.
-use crate::device::{FACES, IMAGE, WHOLE, WHOLE_RANGE};
-use crate::{accepted, viewed, with_features};
+use crate::requests::{FACES, IMAGE, WHOLE, WHOLE_RANGE, accepted, viewed, with_features};
 use std::process::Abort;
 use std::test::Fail;
-use types::aspect::TextureAspect;
+use types::aspect::{FormatAspects, TextureAspect};
 use types::descriptor::TextureDescriptor;
 use types::dimension::{TextureDimension, TextureViewDimension};
 use types::extent::Extent3d;
+use types::features::Features;
 use types::format::TextureFormat;
+use types::usages::TextureUsages;
 use types::view::TextureViewNotRenderableReason as Reason;
 use types::view_descriptor::{ImageSubresourceRange, TextureViewDescriptor};
 
-// Width and height, or the reason with its value: a dimension by its code.
-#[derive(Clone, Copy, PartialEq, Debug)]
+// Width and height, or the reason.
+#[derive(Clone, Copy, Debug, PartialEq, Eq)]
 enum Rendered {
     At(u32, u32),
-    Usage(u32),
-    Dimension(u32),
+    Usage(TextureUsages),
+    Dimension(TextureViewDimension),
     Levels(u32),
     Layers(u32),
-    Aspects(u32),
+    Aspects(FormatAspects),
 }
 
 use Rendered::*;
 
 struct Case {
-    features: u32,
+    features: Features,
     texture: TextureDescriptor<'static>,
     view: TextureViewDescriptor,
     answer: Rendered,
@@ -34,7 +35,7 @@ struct Case {
 static CASES: [Case; 16] = [
     // level 3 of a face
     Case {
-        features: 0,
+        features: Features::NONE,
         texture: FACES,
         view: TextureViewDescriptor {
             dimension: Some(TextureViewDimension::D2),
@@ -49,14 +50,14 @@ static CASES: [Case; 16] = [
     },
     // all of an image
     Case {
-        features: 0,
+        features: Features::NONE,
         texture: IMAGE,
         view: WHOLE,
         answer: At(64, 32),
     },
     // the last level of an oblong image
     Case {
-        features: 0,
+        features: Features::NONE,
         texture: TextureDescriptor {
             mip_level_count: 7,
             ..IMAGE
@@ -72,7 +73,7 @@ static CASES: [Case; 16] = [
     },
     // a level between
     Case {
-        features: 0,
+        features: Features::NONE,
         texture: TextureDescriptor {
             mip_level_count: 7,
             ..IMAGE
@@ -89,7 +90,7 @@ static CASES: [Case; 16] = [
     },
     // a volume
     Case {
-        features: 0,
+        features: Features::NONE,
         texture: TextureDescriptor {
             dimension: TextureDimension::D3,
             ..FACES
@@ -105,7 +106,7 @@ static CASES: [Case; 16] = [
     },
     // an array of one image
     Case {
-        features: 0,
+        features: Features::NONE,
         texture: FACES,
         view: TextureViewDescriptor {
             range: ImageSubresourceRange {
@@ -119,7 +120,7 @@ static CASES: [Case; 16] = [
     },
     // several images, together
     Case {
-        features: 256,
+        features: Features(256),
         texture: FACES,
         view: TextureViewDescriptor {
             range: ImageSubresourceRange {
@@ -132,7 +133,7 @@ static CASES: [Case; 16] = [
     },
     // several images
     Case {
-        features: 0,
+        features: Features::NONE,
         texture: FACES,
         view: TextureViewDescriptor {
             range: ImageSubresourceRange {
@@ -145,7 +146,7 @@ static CASES: [Case; 16] = [
     },
     // several levels
     Case {
-        features: 0,
+        features: Features::NONE,
         texture: FACES,
         view: TextureViewDescriptor {
             dimension: Some(TextureViewDimension::D2),
@@ -155,7 +156,7 @@ static CASES: [Case; 16] = [
     },
     // a cube
     Case {
-        features: 0,
+        features: Features::NONE,
         texture: FACES,
         view: TextureViewDescriptor {
             dimension: Some(TextureViewDimension::Cube),
@@ -165,21 +166,21 @@ static CASES: [Case; 16] = [
             },
             ..WHOLE
         },
-        answer: Dimension(4),
+        answer: Dimension(TextureViewDimension::Cube),
     },
     // a usage without rendering
     Case {
-        features: 0,
+        features: Features::NONE,
         texture: FACES,
         view: TextureViewDescriptor {
-            usage: Some(4),
+            usage: Some(TextureUsages(4)),
             ..WHOLE
         },
-        answer: Usage(4),
+        answer: Usage(TextureUsages(4)),
     },
     // the depth of two aspects
     Case {
-        features: 0,
+        features: Features::NONE,
         texture: TextureDescriptor {
             format: TextureFormat::Depth24PlusStencil8,
             ..IMAGE
@@ -191,11 +192,11 @@ static CASES: [Case; 16] = [
             },
             ..WHOLE
         },
-        answer: Aspects(2),
+        answer: Aspects(FormatAspects(2)),
     },
     // the depth of one
     Case {
-        features: 0,
+        features: Features::NONE,
         texture: TextureDescriptor {
             format: TextureFormat::Depth16Unorm,
             ..IMAGE
@@ -211,7 +212,7 @@ static CASES: [Case; 16] = [
     },
     // the first plane
     Case {
-        features: 64,
+        features: Features(64),
         texture: TextureDescriptor {
             format: TextureFormat::NV12,
             ..IMAGE
@@ -227,7 +228,7 @@ static CASES: [Case; 16] = [
     },
     // the second plane
     Case {
-        features: 64,
+        features: Features(64),
         texture: TextureDescriptor {
             format: TextureFormat::NV12,
             ..IMAGE
@@ -243,7 +244,7 @@ static CASES: [Case; 16] = [
     },
     // the second plane at its last level
     Case {
-        features: 64,
+        features: Features(64),
         texture: TextureDescriptor {
             format: TextureFormat::NV12,
             mip_level_count: 5,
@@ -265,7 +266,7 @@ fn outcome(answer: Result<Extent3d, Reason>) -> Rendered {
     match answer {
         Ok(extent) => At(extent.width, extent.height),
         Err(Reason::Usage(usage)) => Usage(usage),
-        Err(Reason::Dimension(dimension)) => Dimension(dimension.code()),
+        Err(Reason::Dimension(dimension)) => Dimension(dimension),
         Err(Reason::MipLevelCount(count)) => Levels(count),
         Err(Reason::ArrayLayerCount(count)) => Layers(count),
         Err(Reason::Aspects(aspects)) => Aspects(aspects),
@@ -277,13 +278,10 @@ fn check_case(rt: &impl Abort, case: &Case) -> Result<(), Fail> {
     let texture = accepted(&device, &case.texture)?;
     let view = viewed(&device, &texture, &case.view)?;
     assert_eq!(rt; outcome(view.render_extent), case.answer);
-    match view.render_extent {
-        Ok(extent) => {
-            assert!(rt; extent.depth_or_array_layers == 1);
-            Ok(())
-        },
-        Err(_) => Ok(()),
+    if let Ok(extent) = view.render_extent {
+        assert_eq!(rt; extent.depth_or_array_layers, 1);
     }
+    Ok(())
 }
 
 #[test]
