@@ -249,6 +249,20 @@ fn refused_in(
     refusal(&ALL_FEATURES, &desc)
 }
 
+// A format's code is the number of its row, from 1 on.
+#[test]
+fn every_code(rt: HostRuntime) {
+    for (place, row) in ROWS.iter().enumerate() {
+        let code = u32::from(row.format);
+        assert_eq!(rt;
+            code as usize,
+            place.saturating_add(1),
+            "of {:?}",
+            row.format
+        );
+    }
+}
+
 #[test]
 fn every_format_dimension_and_usage(rt: HostRuntime) {
     for row in &ROWS {
@@ -257,15 +271,18 @@ fn every_format_dimension_and_usage(rt: HostRuntime) {
             let usage = *usage;
             assert_eq!(rt;
                 refused_in(&LINE, format, usage),
-                by_usage(row, usage, in_1d(format, usage))
+                by_usage(row, usage, in_1d(format, usage)),
+                "{format:?} in 1D with {usage:?}"
             );
             assert_eq!(rt;
                 refused_in(&SQUARE, format, usage),
-                by_usage(row, usage, in_2d(usage))
+                by_usage(row, usage, in_2d(usage)),
+                "{format:?} in 2D with {usage:?}"
             );
             assert_eq!(rt;
                 refused_in(&CUBE, format, usage),
-                by_usage(row, usage, in_3d(format, usage))
+                by_usage(row, usage, in_3d(format, usage)),
+                "{format:?} in 3D with {usage:?}"
             );
         }
     }
@@ -282,14 +299,16 @@ fn every_needed_feature(rt: HostRuntime) {
             features: row.needs,
             ..Capabilities::DEFAULT
         };
-        assert_eq!(rt; refusal(&needed, &desc), None);
+        assert_eq!(rt; refusal(&needed, &desc), None, "{:?}", row.format);
         let others = Capabilities {
             features: ALL_FEATURES.features.difference(row.needs),
             ..Capabilities::DEFAULT
         };
         assert_eq!(rt;
             refusal(&others, &desc),
-            if row.needs.is_empty() { None } else { Some(12) }
+            if row.needs.is_empty() { None } else { Some(12) },
+            "{:?}",
+            row.format
         );
     }
 }

@@ -110,10 +110,15 @@ fn refused_at(case: &Case, levels: u32) -> Option<u32> {
 #[test]
 fn levels_end_at_the_last_digit(rt: HostRuntime) {
     for case in &CASES {
-        assert_eq!(rt; refused_at(case, 0), Some(13));
-        assert_eq!(rt; refused_at(case, 1), None);
-        assert_eq!(rt; refused_at(case, case.maximum), None);
-        assert_eq!(rt; refused_at(case, case.maximum.saturating_add(1)), Some(13));
-        assert_eq!(rt; refused_at(case, u32::MAX), Some(13));
+        let size = case.size;
+        assert_eq!(rt; refused_at(case, 0), Some(13), "{size:?}");
+        assert_eq!(rt; refused_at(case, 1), None, "{size:?}");
+        assert_eq!(rt; refused_at(case, case.maximum), None, "{size:?}");
+        assert_eq!(rt;
+            refused_at(case, case.maximum.saturating_add(1)),
+            Some(13),
+            "{size:?}"
+        );
+        assert_eq!(rt; refused_at(case, u32::MAX), Some(13), "{size:?}");
     }
 }

@@ -37,19 +37,23 @@ fn one_and_four(rt: HostRuntime) {
             sample_count,
             ..DRAWN
         };
-        assert_eq!(rt; refusal(&device, &image), *in_2d);
+        assert_eq!(rt; refusal(&device, &image), *in_2d, "{sample_count} in 2D");
         let line = TextureDescriptor {
             dimension: TextureDimension::D1,
             sample_count,
             ..SAMPLED
         };
-        assert_eq!(rt; refusal(&device, &line), *elsewhere);
+        assert_eq!(rt; refusal(&device, &line), *elsewhere, "{sample_count} in 1D");
         let volume = TextureDescriptor {
             dimension: TextureDimension::D3,
             sample_count,
             ..SAMPLED
         };
-        assert_eq!(rt; refusal(&device, &volume), *elsewhere);
+        assert_eq!(rt;
+            refusal(&device, &volume),
+            *elsewhere,
+            "{sample_count} in 3D"
+        );
     }
 }
 

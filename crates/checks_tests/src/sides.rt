@@ -91,10 +91,24 @@ fn refused_at(limit: &Limit, length: u32) -> Option<u32> {
 #[test]
 fn each_side_has_its_limit(rt: HostRuntime) {
     for limit in &LIMITS {
-        assert_eq!(rt; refused_at(limit, 0), Some(4));
-        assert_eq!(rt; refused_at(limit, 1), None);
-        assert_eq!(rt; refused_at(limit, limit.limit), None);
-        assert_eq!(rt; refused_at(limit, limit.limit.saturating_add(1)), Some(5));
-        assert_eq!(rt; refused_at(limit, u32::MAX), Some(5));
+        let side = limit.side;
+        let dimension = limit.dimension;
+        assert_eq!(rt; refused_at(limit, 0), Some(4), "{side:?} in {dimension:?}");
+        assert_eq!(rt; refused_at(limit, 1), None, "{side:?} in {dimension:?}");
+        assert_eq!(rt;
+            refused_at(limit, limit.limit),
+            None,
+            "{side:?} in {dimension:?}"
+        );
+        assert_eq!(rt;
+            refused_at(limit, limit.limit.saturating_add(1)),
+            Some(5),
+            "{side:?} in {dimension:?}"
+        );
+        assert_eq!(rt;
+            refused_at(limit, u32::MAX),
+            Some(5),
+            "{side:?} in {dimension:?}"
+        );
     }
 }

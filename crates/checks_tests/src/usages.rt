@@ -28,6 +28,10 @@ fn usages_are_known_and_allowed(rt: HostRuntime) {
             usage: *usage,
             ..SAMPLED
         };
-        assert_eq!(rt; refusal(&Capabilities::DEFAULT, &desc), *number);
+        assert_eq!(rt;
+            refusal(&Capabilities::DEFAULT, &desc),
+            *number,
+            "{usage:?}"
+        );
     }
 }

@@ -66,14 +66,19 @@ fn the_twin_is_noted(rt: HostRuntime) {
         ..Capabilities::DEFAULT
     };
     for case in &CASES {
+        let view_formats = case.view_formats;
         let desc = TextureDescriptor {
-            view_formats: case.view_formats,
+            view_formats,
             ..SAMPLED
         };
-        assert_eq!(rt; refusal(&Capabilities::DEFAULT, &desc), case.with);
-        assert_eq!(rt; refusal(&bare, &desc), case.without);
+        assert_eq!(rt;
+            refusal(&Capabilities::DEFAULT, &desc),
+            case.with,
+            "{view_formats:?}"
+        );
+        assert_eq!(rt; refusal(&bare, &desc), case.without, "{view_formats:?}");
         if let Ok(twin_listed) = check_texture_descriptor(&Capabilities::DEFAULT, &desc) {
-            assert_eq!(rt; twin_listed, case.twin_listed);
+            assert_eq!(rt; twin_listed, case.twin_listed, "{view_formats:?}");
         }
     }
 }

@@ -303,11 +303,16 @@ fn check_case(rt: &impl Abort, case: &Case) -> Result<(), Fail> {
     let device = with_features(case.features);
     let texture = accepted(&device, &case.texture)?;
     let view = viewed(&device, &texture, &case.view)?;
-    assert_eq!(rt; view.format, case.format);
-    assert_eq!(rt; view.hal_format, case.hal_format);
-    assert_eq!(rt; view.hal_usage, case.hal_usage);
-    assert_eq!(rt; view.aspects, case.aspects);
-    assert_eq!(rt; view.samples, case.texture.sample_count);
+    assert_eq!(rt; view.format, case.format, "of {:?}", case.view);
+    assert_eq!(rt; view.hal_format, case.hal_format, "of {:?}", case.view);
+    assert_eq!(rt; view.hal_usage, case.hal_usage, "of {:?}", case.view);
+    assert_eq!(rt; view.aspects, case.aspects, "of {:?}", case.view);
+    assert_eq!(rt;
+        view.samples,
+        case.texture.sample_count,
+        "of {:?}",
+        case.view
+    );
     Ok(())
 }
 

@@ -10,7 +10,7 @@ use types::features::Features;
 use types::format::TextureFormat;
 use types::usages::TextureUsages;
 use types::view_descriptor::{ImageSubresourceRange, TextureViewDescriptor};
-use view_checks::resolve::resolve_view_descriptor;
+use view_checks::resolve::{ResolvedView, resolve_view_descriptor};
 
 struct Case {
     features: Features,
@@ -395,15 +395,23 @@ static CASES: [Case; 22] = [
 
 fn check_case(rt: &impl Abort, case: &Case) -> Result<(), Fail> {
     let texture = accepted(&with_features(case.features), &case.texture)?;
-    let view = resolve_view_descriptor(&texture, &case.view);
-    assert_eq!(rt; view.format, case.format);
-    assert_eq!(rt; view.dimension, case.dimension);
-    assert_eq!(rt; view.usage, case.usage);
-    assert_eq!(rt; view.mip_level_count, case.levels);
-    assert_eq!(rt; view.array_layer_count, case.layers);
-    assert_eq!(rt; view.base_mip_level, case.view.range.base_mip_level);
-    assert_eq!(rt; view.base_array_layer, case.view.range.base_array_layer);
-    assert_eq!(rt; view.aspect, case.view.range.aspect);
+    let range = case.view.range;
+    let filled_in = ResolvedView {
+        format: case.format,
+        dimension: case.dimension,
+        usage: case.usage,
+        aspect: range.aspect,
+        base_mip_level: range.base_mip_level,
+        mip_level_count: case.levels,
+        base_array_layer: range.base_array_layer,
+        array_layer_count: case.layers,
+    };
+    assert_eq!(rt;
+        resolve_view_descriptor(&texture, &case.view),
+        filled_in,
+        "of {:?}",
+        case.view
+    );
     Ok(())
 }
 

@@ -277,9 +277,14 @@ fn check_case(rt: &impl Abort, case: &Case) -> Result<(), Fail> {
     let device = with_features(case.features);
     let texture = accepted(&device, &case.texture)?;
     let view = viewed(&device, &texture, &case.view)?;
-    assert_eq!(rt; outcome(view.render_extent), case.answer);
+    assert_eq!(rt;
+        outcome(view.render_extent),
+        case.answer,
+        "of {:?}",
+        case.view
+    );
     if let Ok(extent) = view.render_extent {
-        assert_eq!(rt; extent.depth_or_array_layers, 1);
+        assert_eq!(rt; extent.depth_or_array_layers, 1, "of {:?}", case.view);
     }
     Ok(())
 }

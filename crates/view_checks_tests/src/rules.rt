@@ -703,8 +703,8 @@ fn check_case(rt: &impl Abort, case: &Case) -> Result<(), Fail> {
     let Err(error) = check_view_descriptor(&device, &texture, &case.view) else {
         return Err(Fail::new("a view that breaks a rule is accepted"));
     };
-    assert_eq!(rt; error.number(), case.number);
-    assert_eq!(rt; error.values(), case.values);
+    assert_eq!(rt; error.number(), case.number, "of {:?}", case.view);
+    assert_eq!(rt; error.values(), case.values, "of {:?}", case.view);
     Ok(())
 }
 
