@@ -42,6 +42,6 @@ pub(crate) fn check_refused(
         return Err(Fail::new("a request that breaks a rule is accepted"));
     };
     assert_eq!(rt; error.number(), number);
-    assert_eq!(rt; error.values(), values);
+    assert_eq!(rt; error.values(), values, "of refusal {number}");
     Ok(())
 }
