@@ -4,7 +4,7 @@ use crate::extent::Extent3d;
 use crate::format::TextureFormat;
 use crate::usages::TextureUsages;
 
-#[derive(Clone, Copy)]
+#[derive(Clone, Copy, Debug, PartialEq, Eq)]
 pub struct TextureDescriptor<'a> {
     pub size: Extent3d,
     pub mip_level_count: u32,

@@ -4,7 +4,7 @@ use crate::format::TextureFormat;
 use crate::format_features::TextureFormatFeatures;
 
 // One row of the table of formats.
-#[derive(Clone, Copy)]
+#[derive(Clone, Copy, Debug, PartialEq, Eq)]
 pub struct FormatRow {
     pub aspects: FormatAspects,
     pub block_width: u32,

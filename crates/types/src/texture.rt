@@ -9,7 +9,7 @@ use crate::uses::TextureUses;
 
 // The request without its view formats, of which only the twin can differ from the format; and what the host is told that the
 // texture is used for. Nothing but the level count is certain: such a record can come from elsewhere.
-#[derive(Clone, Copy)]
+#[derive(Clone, Copy, Debug, PartialEq, Eq)]
 pub struct Texture {
     pub size: Extent3d,
     pub mip_level_count: u32,

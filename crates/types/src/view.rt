@@ -7,7 +7,7 @@ use crate::range::Range;
 use crate::usages::TextureUsages;
 use crate::uses::TextureUses;
 
-#[derive(Clone, Copy)]
+#[derive(Clone, Copy, Debug, PartialEq, Eq)]
 pub struct TextureView {
     pub format: TextureFormat,
     pub dimension: TextureViewDimension,
@@ -25,7 +25,7 @@ pub struct TextureView {
     pub render_extent: Result<Extent3d, TextureViewNotRenderableReason>,
 }
 
-#[derive(Clone, Copy)]
+#[derive(Clone, Copy, Debug, PartialEq, Eq)]
 pub enum TextureViewNotRenderableReason {
     Usage(TextureUsages),
     Dimension(TextureViewDimension),

@@ -12,24 +12,12 @@ use types::usages::TextureUsages;
 use types::view::TextureViewNotRenderableReason as Reason;
 use types::view_descriptor::{ImageSubresourceRange, TextureViewDescriptor};
 
-// Width and height, or the reason.
-#[derive(Clone, Copy, Debug, PartialEq, Eq)]
-enum Rendered {
-    At(u32, u32),
-    Usage(TextureUsages),
-    Dimension(TextureViewDimension),
-    Levels(u32),
-    Layers(u32),
-    Aspects(FormatAspects),
-}
-
-use Rendered::*;
-
 struct Case {
     features: Features,
     texture: TextureDescriptor<'static>,
     view: TextureViewDescriptor,
-    answer: Rendered,
+    // how large, or why not
+    answer: Result<Extent3d, Reason>,
 }
 
 static CASES: [Case; 16] = [
@@ -46,14 +34,22 @@ static CASES: [Case; 16] = [
             },
             ..WHOLE
         },
-        answer: At(8, 8),
+        answer: Ok(Extent3d {
+            width: 8,
+            height: 8,
+            depth_or_array_layers: 1,
+        }),
     },
     // all of an image
     Case {
         features: Features::NONE,
         texture: IMAGE,
         view: WHOLE,
-        answer: At(64, 32),
+        answer: Ok(Extent3d {
+            width: 64,
+            height: 32,
+            depth_or_array_layers: 1,
+        }),
     },
     // the last level of an oblong image
     Case {
@@ -69,7 +65,11 @@ static CASES: [Case; 16] = [
             },
             ..WHOLE
         },
-        answer: At(1, 1),
+        answer: Ok(Extent3d {
+            width: 1,
+            height: 1,
+            depth_or_array_layers: 1,
+        }),
     },
     // a level between
     Case {
@@ -86,7 +86,11 @@ static CASES: [Case; 16] = [
             },
             ..WHOLE
         },
-        answer: At(4, 2),
+        answer: Ok(Extent3d {
+            width: 4,
+            height: 2,
+            depth_or_array_layers: 1,
+        }),
     },
     // a volume
     Case {
@@ -102,7 +106,11 @@ static CASES: [Case; 16] = [
             },
             ..WHOLE
         },
-        answer: At(64, 64),
+        answer: Ok(Extent3d {
+            width: 64,
+            height: 64,
+            depth_or_array_layers: 1,
+        }),
     },
     // an array of one image
     Case {
@@ -116,7 +124,11 @@ static CASES: [Case; 16] = [
             },
             ..WHOLE
         },
-        answer: At(64, 64),
+        answer: Ok(Extent3d {
+            width: 64,
+            height: 64,
+            depth_or_array_layers: 1,
+        }),
     },
     // several images, together
     Case {
@@ -129,7 +141,11 @@ static CASES: [Case; 16] = [
             },
             ..WHOLE
         },
-        answer: At(64, 64),
+        answer: Ok(Extent3d {
+            width: 64,
+            height: 64,
+            depth_or_array_layers: 1,
+        }),
     },
     // several images
     Case {
@@ -142,7 +158,7 @@ static CASES: [Case; 16] = [
             },
             ..WHOLE
         },
-        answer: Layers(6),
+        answer: Err(Reason::ArrayLayerCount(6)),
     },
     // several levels
     Case {
@@ -152,7 +168,7 @@ static CASES: [Case; 16] = [
             dimension: Some(TextureViewDimension::D2),
             ..WHOLE
         },
-        answer: Levels(7),
+        answer: Err(Reason::MipLevelCount(7)),
     },
     // a cube
     Case {
@@ -166,7 +182,7 @@ static CASES: [Case; 16] = [
             },
             ..WHOLE
         },
-        answer: Dimension(TextureViewDimension::Cube),
+        answer: Err(Reason::Dimension(TextureViewDimension::Cube)),
     },
     // a usage without rendering
     Case {
@@ -176,7 +192,7 @@ static CASES: [Case; 16] = [
             usage: Some(TextureUsages(4)),
             ..WHOLE
         },
-        answer: Usage(TextureUsages(4)),
+        answer: Err(Reason::Usage(TextureUsages(4))),
     },
     // the depth of two aspects
     Case {
@@ -192,7 +208,7 @@ static CASES: [Case; 16] = [
             },
             ..WHOLE
         },
-        answer: Aspects(FormatAspects(2)),
+        answer: Err(Reason::Aspects(FormatAspects(2))),
     },
     // the depth of one
     Case {
@@ -208,7 +224,11 @@ static CASES: [Case; 16] = [
             },
             ..WHOLE
         },
-        answer: At(64, 32),
+        answer: Ok(Extent3d {
+            width: 64,
+            height: 32,
+            depth_or_array_layers: 1,
+        }),
     },
     // the first plane
     Case {
@@ -224,7 +244,11 @@ static CASES: [Case; 16] = [
             },
             ..WHOLE
         },
-        answer: At(64, 32),
+        answer: Ok(Extent3d {
+            width: 64,
+            height: 32,
+            depth_or_array_layers: 1,
+        }),
     },
     // the second plane
     Case {
@@ -240,7 +264,11 @@ static CASES: [Case; 16] = [
             },
             ..WHOLE
         },
-        answer: At(32, 16),
+        answer: Ok(Extent3d {
+            width: 32,
+            height: 16,
+            depth_or_array_layers: 1,
+        }),
     },
     // the second plane at its last level
     Case {
@@ -258,34 +286,19 @@ static CASES: [Case; 16] = [
             },
             ..WHOLE
         },
-        answer: At(2, 1),
+        answer: Ok(Extent3d {
+            width: 2,
+            height: 1,
+            depth_or_array_layers: 1,
+        }),
     },
 ];
-
-fn outcome(answer: Result<Extent3d, Reason>) -> Rendered {
-    match answer {
-        Ok(extent) => At(extent.width, extent.height),
-        Err(Reason::Usage(usage)) => Usage(usage),
-        Err(Reason::Dimension(dimension)) => Dimension(dimension),
-        Err(Reason::MipLevelCount(count)) => Levels(count),
-        Err(Reason::ArrayLayerCount(count)) => Layers(count),
-        Err(Reason::Aspects(aspects)) => Aspects(aspects),
-    }
-}
 
 fn check_case(rt: &impl Abort, case: &Case) -> Result<(), Fail> {
     let device = with_features(case.features);
     let texture = accepted(&device, &case.texture)?;
     let view = viewed(&device, &texture, &case.view)?;
-    assert_eq!(rt;
-        outcome(view.render_extent),
-        case.answer,
-        "of {:?}",
-        case.view
-    );
-    if let Ok(extent) = view.render_extent {
-        assert_eq!(rt; extent.depth_or_array_layers, 1, "of {:?}", case.view);
-    }
+    assert_eq!(rt; view.render_extent, case.answer, "of {:?}", case.view);
     Ok(())
 }
 
