@@ -8,6 +8,7 @@ pub mod capabilities;
 pub mod conv;
 pub mod descriptor;
 pub mod dimension;
+mod display;
 pub mod extent;
 pub mod features;
 pub mod format;
