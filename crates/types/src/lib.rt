@@ -9,6 +9,7 @@ pub mod code;
 pub mod conv;
 pub mod descriptor;
 pub mod dimension;
+mod display;
 pub mod downlevel_flags;
 pub mod extent;
 pub mod features;

@@ -1,13 +1,12 @@
-// What a container asks for.
-use types::aspect::TextureAspect;
+// A container's requests, and the plain ones that the others differ from.
 use types::descriptor::TextureDescriptor;
 use types::dimension::TextureDimension;
 use types::extent::Extent3d;
 use types::format::TextureFormat;
 use types::usages::TextureUsages;
-use types::view_descriptor::{ImageSubresourceRange, TextureViewDescriptor};
+use types::view_descriptor::TextureViewDescriptor;
 
-// A texture, and views of it once it is there.
+/// A texture, and views of it once it is there.
 #[derive(Clone, Copy)]
 pub struct Request {
     pub what: &'static str,
@@ -15,13 +14,14 @@ pub struct Request {
     pub views: &'static [ViewRequest],
 }
 
+/// A view of a texture that is there.
 #[derive(Clone, Copy)]
 pub struct ViewRequest {
     pub what: &'static str,
     pub desc: TextureViewDescriptor,
 }
 
-// A small sampled image: other requests say what is different about them.
+/// A small sampled image: other requests say what is different about them.
 pub const PLAIN: TextureDescriptor<'static> = TextureDescriptor {
     size: Extent3d {
         width: 64,
@@ -34,20 +34,4 @@ pub const PLAIN: TextureDescriptor<'static> = TextureDescriptor {
     format: TextureFormat::Rgba8Unorm,
     usage: TextureUsages::TEXTURE_BINDING,
     view_formats: &[],
-};
-
-// Everything from the first level and layer on: what is omitted is filled in from the texture.
-pub const WHOLE_RANGE: ImageSubresourceRange = ImageSubresourceRange {
-    aspect: TextureAspect::All,
-    base_mip_level: 0,
-    mip_level_count: None,
-    base_array_layer: 0,
-    array_layer_count: None,
-};
-
-pub const WHOLE: TextureViewDescriptor = TextureViewDescriptor {
-    format: None,
-    dimension: None,
-    usage: None,
-    range: WHOLE_RANGE,
 };

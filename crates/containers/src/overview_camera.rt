@@ -1,5 +1,5 @@
 // The overview camera: frames in luminance and colour, a history of frames, compressed stills.
-use crate::container::{PLAIN, Request, ViewRequest, WHOLE, WHOLE_RANGE};
+use crate::request::{PLAIN, Request, ViewRequest};
 use types::descriptor::TextureDescriptor;
 use types::dimension::{TextureDimension, TextureViewDimension};
 use types::extent::Extent3d;
@@ -7,7 +7,12 @@ use types::format::TextureFormat;
 use types::usages::TextureUsages;
 use types::view_descriptor::{ImageSubresourceRange, TextureViewDescriptor};
 
-const FRAME: u32 = TextureUsages::COPY_DST | TextureUsages::TEXTURE_BINDING;
+/// The container's name.
+pub const NAME: &str = "overview camera";
+
+const FRAME: TextureUsages = TextureUsages(
+    TextureUsages::COPY_DST.0 | TextureUsages::TEXTURE_BINDING.0,
+);
 
 const LUMINANCE: TextureDescriptor<'static> = TextureDescriptor {
     size: Extent3d {
@@ -69,20 +74,21 @@ const HISTORY_VIEWS: [ViewRequest; 2] = [
         desc: TextureViewDescriptor {
             range: ImageSubresourceRange {
                 base_array_layer: 250,
-                ..WHOLE_RANGE
+                ..ImageSubresourceRange::DEFAULT
             },
-            ..WHOLE
+            ..TextureViewDescriptor::DEFAULT
         },
     },
     ViewRequest {
         what: "as a cube",
         desc: TextureViewDescriptor {
             dimension: Some(TextureViewDimension::Cube),
-            ..WHOLE
+            ..TextureViewDescriptor::DEFAULT
         },
     },
 ];
 
+/// All that the overview camera asks for.
 pub static REQUESTS: [Request; 13] = [
     Request {
         what: "luminance",

@@ -1,5 +1,5 @@
 // The operator panel: a screen with a status bar, a mimic diagram, and symbols from an atlas.
-use crate::container::{PLAIN, Request, ViewRequest, WHOLE, WHOLE_RANGE};
+use crate::request::{PLAIN, Request, ViewRequest};
 use types::aspect::TextureAspect;
 use types::descriptor::TextureDescriptor;
 use types::dimension::{TextureDimension, TextureViewDimension};
@@ -8,11 +8,27 @@ use types::format::TextureFormat;
 use types::usages::TextureUsages;
 use types::view_descriptor::{ImageSubresourceRange, TextureViewDescriptor};
 
-const DRAWN: u32 = TextureUsages::TEXTURE_BINDING | TextureUsages::RENDER_ATTACHMENT;
+/// The container's name.
+pub const NAME: &str = "operator panel";
 
-const LOADED: u32 = TextureUsages::COPY_DST | TextureUsages::TEXTURE_BINDING;
+const NO_USAGE: TextureUsages = TextureUsages(0);
 
-const TRANSIENT: u32 = TextureUsages::RENDER_ATTACHMENT | TextureUsages::TRANSIENT_ATTACHMENT;
+// a bit that stands for no usage
+const UNKNOWN_USAGE: TextureUsages = TextureUsages(128);
+
+const DRAWN: TextureUsages = TextureUsages(
+    TextureUsages::TEXTURE_BINDING.0 | TextureUsages::RENDER_ATTACHMENT.0,
+);
+
+const LOADED: TextureUsages = TextureUsages(
+    TextureUsages::COPY_DST.0 | TextureUsages::TEXTURE_BINDING.0,
+);
+
+const TRANSIENT: TextureUsages = TextureUsages(
+    TextureUsages::RENDER_ATTACHMENT.0 | TextureUsages::TRANSIENT_ATTACHMENT.0,
+);
+
+const TRANSIENT_AND_COPIED: TextureUsages = TextureUsages(TRANSIENT.0 | TextureUsages::COPY_SRC.0);
 
 const PANEL: Extent3d = Extent3d {
     width: 1280,
@@ -77,41 +93,41 @@ const PASSING_DEPTH: TextureDescriptor<'static> = TextureDescriptor {
 const SCREEN_VIEWS: [ViewRequest; 6] = [
     ViewRequest {
         what: "all of it",
-        desc: WHOLE,
+        desc: TextureViewDescriptor::DEFAULT,
     },
     ViewRequest {
         what: "drawn on",
         desc: TextureViewDescriptor {
             usage: Some(TextureUsages::RENDER_ATTACHMENT),
-            ..WHOLE
+            ..TextureViewDescriptor::DEFAULT
         },
     },
     ViewRequest {
         what: "of no usage",
         desc: TextureViewDescriptor {
-            usage: Some(0),
-            ..WHOLE
+            usage: Some(NO_USAGE),
+            ..TextureViewDescriptor::DEFAULT
         },
     },
     ViewRequest {
         what: "as storage",
         desc: TextureViewDescriptor {
             usage: Some(TextureUsages::STORAGE_BINDING),
-            ..WHOLE
+            ..TextureViewDescriptor::DEFAULT
         },
     },
     ViewRequest {
         what: "in sRGB, unlisted",
         desc: TextureViewDescriptor {
             format: Some(TextureFormat::Bgra8UnormSrgb),
-            ..WHOLE
+            ..TextureViewDescriptor::DEFAULT
         },
     },
     ViewRequest {
         what: "in a format that the device lacks",
         desc: TextureViewDescriptor {
             format: Some(TextureFormat::Depth32FloatStencil8),
-            ..WHOLE
+            ..TextureViewDescriptor::DEFAULT
         },
     },
 ];
@@ -121,14 +137,14 @@ const SRGB_VIEWS: [ViewRequest; 2] = [
         what: "in sRGB",
         desc: TextureViewDescriptor {
             format: Some(TextureFormat::Bgra8UnormSrgb),
-            ..WHOLE
+            ..TextureViewDescriptor::DEFAULT
         },
     },
     ViewRequest {
         what: "in a foreign format",
         desc: TextureViewDescriptor {
             format: Some(TextureFormat::Rgba8Unorm),
-            ..WHOLE
+            ..TextureViewDescriptor::DEFAULT
         },
     },
 ];
@@ -136,7 +152,7 @@ const SRGB_VIEWS: [ViewRequest; 2] = [
 const TICKER_VIEWS: [ViewRequest; 5] = [
     ViewRequest {
         what: "every level",
-        desc: WHOLE,
+        desc: TextureViewDescriptor::DEFAULT,
     },
     ViewRequest {
         what: "level 3",
@@ -144,9 +160,9 @@ const TICKER_VIEWS: [ViewRequest; 5] = [
             range: ImageSubresourceRange {
                 base_mip_level: 3,
                 mip_level_count: Some(1),
-                ..WHOLE_RANGE
+                ..ImageSubresourceRange::DEFAULT
             },
-            ..WHOLE
+            ..TextureViewDescriptor::DEFAULT
         },
     },
     ViewRequest {
@@ -156,9 +172,9 @@ const TICKER_VIEWS: [ViewRequest; 5] = [
             range: ImageSubresourceRange {
                 base_mip_level: 3,
                 mip_level_count: Some(1),
-                ..WHOLE_RANGE
+                ..ImageSubresourceRange::DEFAULT
             },
-            ..WHOLE
+            ..TextureViewDescriptor::DEFAULT
         },
     },
     ViewRequest {
@@ -166,9 +182,9 @@ const TICKER_VIEWS: [ViewRequest; 5] = [
         desc: TextureViewDescriptor {
             range: ImageSubresourceRange {
                 base_mip_level: 14,
-                ..WHOLE_RANGE
+                ..ImageSubresourceRange::DEFAULT
             },
-            ..WHOLE
+            ..TextureViewDescriptor::DEFAULT
         },
     },
     ViewRequest {
@@ -177,9 +193,9 @@ const TICKER_VIEWS: [ViewRequest; 5] = [
             range: ImageSubresourceRange {
                 base_mip_level: u32::MAX,
                 mip_level_count: Some(2),
-                ..WHOLE_RANGE
+                ..ImageSubresourceRange::DEFAULT
             },
-            ..WHOLE
+            ..TextureViewDescriptor::DEFAULT
         },
     },
 ];
@@ -187,20 +203,20 @@ const TICKER_VIEWS: [ViewRequest; 5] = [
 const ATLAS_VIEWS: [ViewRequest; 10] = [
     ViewRequest {
         what: "as an array",
-        desc: WHOLE,
+        desc: TextureViewDescriptor::DEFAULT,
     },
     ViewRequest {
         what: "as a cube",
         desc: TextureViewDescriptor {
             dimension: Some(TextureViewDimension::Cube),
-            ..WHOLE
+            ..TextureViewDescriptor::DEFAULT
         },
     },
     ViewRequest {
         what: "as cubes",
         desc: TextureViewDescriptor {
             dimension: Some(TextureViewDimension::CubeArray),
-            ..WHOLE
+            ..TextureViewDescriptor::DEFAULT
         },
     },
     ViewRequest {
@@ -209,9 +225,9 @@ const ATLAS_VIEWS: [ViewRequest; 10] = [
             dimension: Some(TextureViewDimension::Cube),
             range: ImageSubresourceRange {
                 base_array_layer: 1,
-                ..WHOLE_RANGE
+                ..ImageSubresourceRange::DEFAULT
             },
-            ..WHOLE
+            ..TextureViewDescriptor::DEFAULT
         },
     },
     ViewRequest {
@@ -220,9 +236,9 @@ const ATLAS_VIEWS: [ViewRequest; 10] = [
             dimension: Some(TextureViewDimension::Cube),
             range: ImageSubresourceRange {
                 array_layer_count: Some(5),
-                ..WHOLE_RANGE
+                ..ImageSubresourceRange::DEFAULT
             },
-            ..WHOLE
+            ..TextureViewDescriptor::DEFAULT
         },
     },
     ViewRequest {
@@ -231,9 +247,9 @@ const ATLAS_VIEWS: [ViewRequest; 10] = [
             dimension: Some(TextureViewDimension::CubeArray),
             range: ImageSubresourceRange {
                 array_layer_count: Some(5),
-                ..WHOLE_RANGE
+                ..ImageSubresourceRange::DEFAULT
             },
-            ..WHOLE
+            ..TextureViewDescriptor::DEFAULT
         },
     },
     ViewRequest {
@@ -242,9 +258,9 @@ const ATLAS_VIEWS: [ViewRequest; 10] = [
             dimension: Some(TextureViewDimension::CubeArray),
             range: ImageSubresourceRange {
                 base_array_layer: 6,
-                ..WHOLE_RANGE
+                ..ImageSubresourceRange::DEFAULT
             },
-            ..WHOLE
+            ..TextureViewDescriptor::DEFAULT
         },
     },
     ViewRequest {
@@ -253,16 +269,16 @@ const ATLAS_VIEWS: [ViewRequest; 10] = [
             dimension: Some(TextureViewDimension::D2),
             range: ImageSubresourceRange {
                 array_layer_count: Some(2),
-                ..WHOLE_RANGE
+                ..ImageSubresourceRange::DEFAULT
             },
-            ..WHOLE
+            ..TextureViewDescriptor::DEFAULT
         },
     },
     ViewRequest {
         what: "as a volume",
         desc: TextureViewDescriptor {
             dimension: Some(TextureViewDimension::D3),
-            ..WHOLE
+            ..TextureViewDescriptor::DEFAULT
         },
     },
     ViewRequest {
@@ -270,9 +286,9 @@ const ATLAS_VIEWS: [ViewRequest; 10] = [
         desc: TextureViewDescriptor {
             range: ImageSubresourceRange {
                 aspect: TextureAspect::DepthOnly,
-                ..WHOLE_RANGE
+                ..ImageSubresourceRange::DEFAULT
             },
-            ..WHOLE
+            ..TextureViewDescriptor::DEFAULT
         },
     },
 ];
@@ -280,13 +296,13 @@ const ATLAS_VIEWS: [ViewRequest; 10] = [
 const SMOOTH_VIEWS: [ViewRequest; 2] = [
     ViewRequest {
         what: "all of it",
-        desc: WHOLE,
+        desc: TextureViewDescriptor::DEFAULT,
     },
     ViewRequest {
         what: "as an array",
         desc: TextureViewDescriptor {
             dimension: Some(TextureViewDimension::D2Array),
-            ..WHOLE
+            ..TextureViewDescriptor::DEFAULT
         },
     },
 ];
@@ -294,17 +310,18 @@ const SMOOTH_VIEWS: [ViewRequest; 2] = [
 const PASSING_VIEWS: [ViewRequest; 2] = [
     ViewRequest {
         what: "all of it",
-        desc: WHOLE,
+        desc: TextureViewDescriptor::DEFAULT,
     },
     ViewRequest {
         what: "drawn on alone",
         desc: TextureViewDescriptor {
             usage: Some(TextureUsages::RENDER_ATTACHMENT),
-            ..WHOLE
+            ..TextureViewDescriptor::DEFAULT
         },
     },
 ];
 
+/// All that the operator panel asks for.
 pub static REQUESTS: [Request; 25] = [
     Request {
         what: "screen",
@@ -347,13 +364,16 @@ pub static REQUESTS: [Request; 25] = [
     },
     Request {
         what: "symbols of no use",
-        desc: TextureDescriptor { usage: 0, ..ATLAS },
+        desc: TextureDescriptor {
+            usage: NO_USAGE,
+            ..ATLAS
+        },
         views: &[],
     },
     Request {
         what: "symbols of an unknown use",
         desc: TextureDescriptor {
-            usage: 128,
+            usage: UNKNOWN_USAGE,
             ..ATLAS
         },
         views: &[],
@@ -452,7 +472,7 @@ pub static REQUESTS: [Request; 25] = [
     Request {
         what: "passing depth, copied",
         desc: TextureDescriptor {
-            usage: TRANSIENT | TextureUsages::COPY_SRC,
+            usage: TRANSIENT_AND_COPIED,
             ..PASSING_DEPTH
         },
         views: &[],

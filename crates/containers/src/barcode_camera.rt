@@ -1,5 +1,6 @@
-// The barcode camera: scan lines, a brightness volume, and storage for its shaders.
-use crate::container::{PLAIN, Request, ViewRequest, WHOLE, WHOLE_RANGE};
+// The barcode camera: scan lines, a brightness volume, and storage for its shaders. It asks for what it scans with first, then
+// for a palette, and then for what it masks with.
+use crate::request::{PLAIN, Request, ViewRequest};
 use types::aspect::TextureAspect;
 use types::descriptor::TextureDescriptor;
 use types::dimension::{TextureDimension, TextureViewDimension};
@@ -8,9 +9,20 @@ use types::format::TextureFormat;
 use types::usages::TextureUsages;
 use types::view_descriptor::{ImageSubresourceRange, TextureViewDescriptor};
 
-const LINE_USAGE: u32 = TextureUsages::COPY_DST | TextureUsages::TEXTURE_BINDING;
+/// The container's name.
+pub const NAME: &str = "barcode camera";
 
-const SCRATCH_USAGE: u32 = TextureUsages::STORAGE_BINDING | TextureUsages::COPY_SRC;
+const LINE_USAGE: TextureUsages = TextureUsages(
+    TextureUsages::COPY_DST.0 | TextureUsages::TEXTURE_BINDING.0,
+);
+
+const SCRATCH_USAGE: TextureUsages = TextureUsages(
+    TextureUsages::STORAGE_BINDING.0 | TextureUsages::COPY_SRC.0,
+);
+
+const ATOMIC_USAGE: TextureUsages = TextureUsages(
+    SCRATCH_USAGE.0 | TextureUsages::STORAGE_ATOMIC.0,
+);
 
 const LINE: TextureDescriptor<'static> = TextureDescriptor {
     dimension: TextureDimension::D1,
@@ -61,13 +73,13 @@ const MASK: TextureDescriptor<'static> = TextureDescriptor {
 const LINE_VIEWS: [ViewRequest; 2] = [
     ViewRequest {
         what: "all of it",
-        desc: WHOLE,
+        desc: TextureViewDescriptor::DEFAULT,
     },
     ViewRequest {
         what: "as an image",
         desc: TextureViewDescriptor {
             dimension: Some(TextureViewDimension::D2),
-            ..WHOLE
+            ..TextureViewDescriptor::DEFAULT
         },
     },
 ];
@@ -75,16 +87,16 @@ const LINE_VIEWS: [ViewRequest; 2] = [
 const VOLUME_VIEWS: [ViewRequest; 2] = [
     ViewRequest {
         what: "all of it",
-        desc: WHOLE,
+        desc: TextureViewDescriptor::DEFAULT,
     },
     ViewRequest {
         what: "level 7",
         desc: TextureViewDescriptor {
             range: ImageSubresourceRange {
                 base_mip_level: 7,
-                ..WHOLE_RANGE
+                ..ImageSubresourceRange::DEFAULT
             },
-            ..WHOLE
+            ..TextureViewDescriptor::DEFAULT
         },
     },
 ];
@@ -93,7 +105,7 @@ const SCRATCH_VIEWS: [ViewRequest; 1] = [ViewRequest {
     what: "as storage",
     desc: TextureViewDescriptor {
         usage: Some(TextureUsages::STORAGE_BINDING),
-        ..WHOLE
+        ..TextureViewDescriptor::DEFAULT
     },
 }];
 
@@ -102,7 +114,7 @@ const PALETTE_VIEWS: [ViewRequest; 2] = [
         what: "written",
         desc: TextureViewDescriptor {
             usage: Some(TextureUsages::STORAGE_BINDING),
-            ..WHOLE
+            ..TextureViewDescriptor::DEFAULT
         },
     },
     ViewRequest {
@@ -110,7 +122,7 @@ const PALETTE_VIEWS: [ViewRequest; 2] = [
         desc: TextureViewDescriptor {
             format: Some(TextureFormat::Rgba8UnormSrgb),
             usage: Some(TextureUsages::STORAGE_BINDING),
-            ..WHOLE
+            ..TextureViewDescriptor::DEFAULT
         },
     },
 ];
@@ -118,16 +130,16 @@ const PALETTE_VIEWS: [ViewRequest; 2] = [
 const MASK_VIEWS: [ViewRequest; 4] = [
     ViewRequest {
         what: "all of it",
-        desc: WHOLE,
+        desc: TextureViewDescriptor::DEFAULT,
     },
     ViewRequest {
         what: "its depth",
         desc: TextureViewDescriptor {
             range: ImageSubresourceRange {
                 aspect: TextureAspect::DepthOnly,
-                ..WHOLE_RANGE
+                ..ImageSubresourceRange::DEFAULT
             },
-            ..WHOLE
+            ..TextureViewDescriptor::DEFAULT
         },
     },
     ViewRequest {
@@ -135,9 +147,9 @@ const MASK_VIEWS: [ViewRequest; 4] = [
         desc: TextureViewDescriptor {
             range: ImageSubresourceRange {
                 aspect: TextureAspect::StencilOnly,
-                ..WHOLE_RANGE
+                ..ImageSubresourceRange::DEFAULT
             },
-            ..WHOLE
+            ..TextureViewDescriptor::DEFAULT
         },
     },
     ViewRequest {
@@ -146,14 +158,15 @@ const MASK_VIEWS: [ViewRequest; 4] = [
             format: Some(TextureFormat::Depth24PlusStencil8),
             range: ImageSubresourceRange {
                 aspect: TextureAspect::StencilOnly,
-                ..WHOLE_RANGE
+                ..ImageSubresourceRange::DEFAULT
             },
-            ..WHOLE
+            ..TextureViewDescriptor::DEFAULT
         },
     },
 ];
 
-pub static REQUESTS: [Request; 13] = [
+/// Lines and volumes, and a scratch image for the shaders that scan.
+pub static SCANNING: [Request; 8] = [
     Request {
         what: "scan line",
         desc: LINE,
@@ -216,15 +229,21 @@ pub static REQUESTS: [Request; 13] = [
         desc: SCRATCH,
         views: &SCRATCH_VIEWS,
     },
-    Request {
-        what: "palette",
-        desc: TextureDescriptor {
-            format: TextureFormat::Rgba8Unorm,
-            view_formats: &[TextureFormat::Rgba8UnormSrgb],
-            ..SCRATCH
-        },
-        views: &PALETTE_VIEWS,
+];
+
+/// The palette that shaders write, and that is then shown in sRGB.
+pub static PALETTE: Request = Request {
+    what: "palette",
+    desc: TextureDescriptor {
+        format: TextureFormat::Rgba8Unorm,
+        view_formats: &[TextureFormat::Rgba8UnormSrgb],
+        ..SCRATCH
     },
+    views: &PALETTE_VIEWS,
+};
+
+/// More scratch images, and masks.
+pub static MASKING: [Request; 4] = [
     Request {
         what: "scratch in sRGB",
         desc: TextureDescriptor {
@@ -236,7 +255,7 @@ pub static REQUESTS: [Request; 13] = [
     Request {
         what: "atomic scratch",
         desc: TextureDescriptor {
-            usage: SCRATCH_USAGE | TextureUsages::STORAGE_ATOMIC,
+            usage: ATOMIC_USAGE,
             ..SCRATCH
         },
         views: &[],
