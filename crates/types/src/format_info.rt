@@ -119,6 +119,7 @@ impl TextureFormat {
         width != 1 || height != 1
     }
 
+    // The two families have a question each, as in wgpu: what asks knows which one it means.
     pub fn is_bcn(self) -> bool
         ensures { result ≡ is_bcn self }
     {

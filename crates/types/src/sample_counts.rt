@@ -20,7 +20,8 @@ impl Flags {
         }
     }
 
-    // The sum of the sample counts that the flags allow, which tells them apart, since each is a power of two.
+    // The sum of the sample counts that the flags allow, which tells them apart, since each is a power of two: a refusal carries
+    // it as one number.
     pub fn supported_sample_counts(self) -> u32
         ensures { result ≡ supported_sample_counts self.0 }
     {

@@ -1,4 +1,5 @@
-// The checks of a view request, one group after the other: the first refusal is the answer, else the view worked out.
+// The checks of a view request, one group after the other: the first refusal is the answer, else the view worked out. A group
+// takes what it reads and no more, so that its signature says what its refusals can depend on.
 ghost use Rattle.std.specs.Prelude.{◌≡◌, ◌↔◌, false, not, IfOk, IsTrue};
 ghost use Rattle.checks.specs.Check.{as_outcome, outcome};
 ghost use Rattle.types.specs.Bits.{contains};
