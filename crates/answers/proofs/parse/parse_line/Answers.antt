@@ -12,13 +12,13 @@ use Rattle.answers.proofs.Fields.{mark_and_rest, not_decided}
 use Rattle.answers.proofs.parse.parse_line.Goals as goal
 
 pub returns-in_err-words : goal.returns-in_err-words
-returns-in_err-words c =
+returns-in_err-words g c =
     let text = c.args.text.now in
     let plain = not_decided _ _ (starts_char 35 text c.starts_with.result c.starts_with.ensures.cases (lit< tt) (lit< tt)) c.if-starts_with.false in
-    hands_on c.from_residual.result _ (Fault text) OutOfMemory c.from_residual.ensures.1 (plain, inl refl)
+    hands_on c.from_residual.result _ (Fault g.A.Answer.fault text) OutOfMemory c.from_residual.ensures.1 (plain, inl refl)
 
 pub returns : goal.returns
-returns c =
+returns g c =
     let text = c.args.text.now in
     let words = c.as_slice.result.now in
     let items = vec_items c.in_ok-words.words in

@@ -9,8 +9,8 @@ pub returns : goal.returns
 returns c =
     let long : 9 ≤ length c.args.numbers.now = search rules in
     request_numbers c.args.numbers.now _ _ _ _ long
-    c.in_ok-texture_dimension.ensures
-    c.in_ok-texture_format.ensures
+    c.in_ok-decode.ensures
+    c.in_ok-decode-2.ensures
     (sym (length-map (vec_items c.in_ok-texture_formats.field-0) code_of))
     c.in_ok-texture_formats.ensures
     c.if-count-view_formats.false

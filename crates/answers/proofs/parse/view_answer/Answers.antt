@@ -18,8 +18,8 @@ returns c =
     view_answered c.args.words.now _ nine _
     (record {
       nine = refl;
-      format = c.in_ok-optional_format.ensures;
-      dimension = c.in_ok-optional_dimension.ensures;
+      format = c.in_ok-optional_code.ensures;
+      dimension = c.in_ok-optional_code-2.ensures;
       usage = c.in_ok-optional_number.ensures;
       aspect = c.in_ok-texture_aspect.ensures;
       first_level = c.in_ok-number.ensures;
@@ -29,17 +29,17 @@ returns c =
       answer = c.in_ok-yes_or_no.ensures;
     })
 
-pub returns-in_err-optional_format : goal.returns-in_err-optional_format
-returns-in_err-optional_format c =
-    let nine = nine_words (goal.at.returns-in_err-optional_format c).In-len9 in
+pub returns-in_err-optional_code : goal.returns-in_err-optional_code
+returns-in_err-optional_code c =
+    let nine = nine_words (goal.at.returns-in_err-optional_code c).In-len9 in
     field_in_view c.args.words.now _ nine c.from_residual.result _ _ c.from_residual.ensures.1
-    (inl c.in_err-optional_format.ensures)
+    (inl c.in_err-optional_code.ensures)
 
-pub returns-in_err-optional_dimension : goal.returns-in_err-optional_dimension
-returns-in_err-optional_dimension c =
-    let nine = nine_words (goal.at.returns-in_err-optional_dimension c).In-len9 in
-    field_in_view c.args.words.now _ nine c.from_residual-in_err-optional_dimension.result _ _ c.from_residual-in_err-optional_dimension.ensures.1
-    (inr (inl c.in_err-optional_dimension.ensures))
+pub returns-in_err-optional_code-2 : goal.returns-in_err-optional_code-2
+returns-in_err-optional_code-2 c =
+    let nine = nine_words (goal.at.returns-in_err-optional_code-2 c).In-len9 in
+    field_in_view c.args.words.now _ nine c.from_residual-in_err-optional_code-2.result _ _ c.from_residual-in_err-optional_code-2.ensures.1
+    (inr (inl c.in_err-optional_code-2.ensures))
 
 pub returns-in_err-optional_number : goal.returns-in_err-optional_number
 returns-in_err-optional_number c =
