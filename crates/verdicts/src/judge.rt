@@ -1,0 +1,56 @@
+// Stored answers, judged: what the checks answer to the same requests, beside them.
+ghost use Rattle.std.specs.Prelude.{◌≡◌};
+ghost use Rattle.verdicts.specs.Requests.{Asks, TextureJudged, view_verdict};
+
+use crate::verdict::{Verdict, compare};
+use answers::line::{TextureAnswer, TextureRequest, ViewAnswer};
+use checks::accepted::accepted_texture;
+use types::capabilities::Capabilities;
+use types::descriptor::TextureDescriptor;
+use types::texture::Texture;
+use view_checks::view::check_view_descriptor;
+
+// What the checks make of a texture request: the texture, where they accept it.
+#[derive(Clone, Copy)]
+pub struct JudgedTexture {
+    pub verdict: Verdict,
+    pub texture: Option<Texture>,
+}
+
+pub fn judge_texture(device: &Capabilities, answer: &TextureAnswer) -> JudgedTexture
+    ensures { TextureJudged device.now answer.now result }
+{
+    let desc = descriptor(&answer.request);
+    match accepted_texture(device, &desc) {
+        Ok(texture) => JudgedTexture {
+            verdict: compare(None, answer.accepted),
+            texture: Some(texture),
+        },
+        Err(error) => JudgedTexture {
+            verdict: compare(Some(error.number()), answer.accepted),
+            texture: None,
+        },
+    }
+}
+
+fn descriptor(request: &TextureRequest) -> TextureDescriptor<'_>
+    ensures { Asks request.now result }
+{
+    TextureDescriptor {
+        size: request.size,
+        mip_level_count: request.mip_level_count,
+        sample_count: request.sample_count,
+        dimension: request.dimension,
+        format: request.format,
+        usage: request.usage,
+        view_formats: request.view_formats.as_slice(),
+    }
+}
+
+// A view of the texture is asked for.
+pub fn judge_view(device: &Capabilities, texture: &Texture, answer: &ViewAnswer) -> Verdict
+    ensures { result ≡ view_verdict device.now texture.now answer.now }
+{
+    let view = check_view_descriptor(device, texture, &answer.request);
+    compare(view.err().map(|error| error.number()), answer.accepted)
+}
