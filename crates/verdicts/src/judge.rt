@@ -21,15 +21,10 @@ pub fn judge_texture(device: &Capabilities, answer: &TextureAnswer) -> JudgedTex
     ensures { TextureJudged device.now answer.now result }
 {
     let desc = descriptor(&answer.request);
-    match accepted_texture(device, &desc) {
-        Ok(texture) => JudgedTexture {
-            verdict: compare(None, answer.accepted),
-            texture: Some(texture),
-        },
-        Err(error) => JudgedTexture {
-            verdict: compare(Some(error.number()), answer.accepted),
-            texture: None,
-        },
+    let checked = accepted_texture(device, &desc);
+    JudgedTexture {
+        verdict: compare(checked.err().map(|error| error.number()), answer.accepted),
+        texture: checked.ok(),
     }
 }
 
