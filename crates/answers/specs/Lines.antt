@@ -1,8 +1,8 @@
 -- What a line of a file of answers says.
-use Rattle.std.specs.Prelude.{◌≡◌, ◌≢◌, ℕ, Bool, true, false, ◌⊎◌, List, [], ◌∷◌, ◌++◌, map, length, get_or, Some, None, vec_items, codes, Option, slice_index, slice_index_or}
+use Rattle.std.specs.Prelude.{◌≡◌, ◌≢◌, ℕ, Bool, true, false, ◌⊎◌, List, [], ◌∷◌, ◌++◌, All, map, length, Some, None, vec_items, codes, Option, slice_index, slice_index_or}
 use Rattle.std.specs.Borrow.{Bor}
 use Rattle.std.specs.Str.Iter.{LacksByte}
-use Rattle.std.specs.List.{join_with_byte, AllByRecursion}
+use Rattle.std.specs.List.{join_with_byte}
 use Rattle.std.specs.Str.Parse.{IsNumeral, digits_value}
 use Rattle.types.specs.Dimension.{dimension_code, view_dimension_code}
 use Rattle.types.specs.Format.{code_of}
@@ -22,7 +22,7 @@ texts_of words = map (λ word. word.now) words
 
 -- words of decimal digits, and the numbers that they write
 abbrev pub Write : List (List ℕ) → List ℕ → Type 0
-Write words numbers = AllByRecursion (IsNumeral 10) words × (map (digits_value 10) words ≡ numbers)
+Write words numbers = All (IsNumeral 10) words × (map (digits_value 10) words ≡ numbers)
 
 -- the numbers of a request, in the order of the line's fields
 abbrev pub numbers_of : TextureRequest → List ℕ
@@ -76,7 +76,7 @@ pub record ViewAnswered (words : List (List ℕ)) (a : ViewAnswer) : Type 0 wher
   pub levels : Omittable Number (slice_index_or words 5 []) a.request.range.mip_level_count
   pub first_layer : Number (slice_index_or words 6 []) a.request.range.base_array_layer
   pub layers : Omittable Number (slice_index_or words 7 []) a.request.range.array_layer_count
-  pub answer : get_or words 8 [] ≡ answer_word a.accepted
+  pub answer : slice_index_or words 8 [] ≡ answer_word a.accepted
 
 -- what the fields after a mark say where a file has answers on textures alone
 abbrev pub TextureSays : List ℕ → List (List ℕ) → TextureAnswer → Type 0
@@ -99,7 +99,7 @@ Commented text = slice_index text 0 ≡ 35
 
 -- the mark of a line and its fields, with a space between each two and none inside
 abbrev pub Words : List ℕ → List ℕ → List (List ℕ) → Type 0
-Words text mark fields = (text ≡ join_with_byte 32 (mark ∷ fields)) × AllByRecursion (LacksByte 32) (mark ∷ fields)
+Words text mark fields = (text ≡ join_with_byte 32 (mark ∷ fields)) × All (LacksByte 32) (mark ∷ fields)
 
 -- what a line says, where the fields of its answers say so much
 abbrev pub Says : {A : Type 0} → (List ℕ → List (List ℕ) → A → Type 0) → List ℕ → Line A → Type 0

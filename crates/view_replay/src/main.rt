@@ -5,7 +5,6 @@ use answers::line::{AnyAnswer, Line, LineError};
 use answers::parse::parse_line;
 use std::{fs, io};
 use thiserror::Error;
-use types::texture::Texture;
 use verdicts::device::DEFAULT_DEVICE;
 use verdicts::judge::{judge_texture, judge_view};
 use verdicts::tally::{Totals, refused_with, totals_of};
@@ -62,7 +61,7 @@ fn replay(rt: &HostRuntime, text: &str) -> anyhow::Result<Verdicts> {
     let heap = rt.alloc();
     let mut device = DEFAULT_DEVICE;
     // the one that was last made
-    let mut texture: Option<Texture> = None;
+    let mut texture = None;
     let mut verdicts = Verdicts {
         textures: Vec::new(heap),
         views: Vec::new(heap),
