@@ -12,7 +12,8 @@ use types::dimension::{TextureDimension, TextureViewDimension};
 use types::format::TextureFormat;
 
 pub trait Coded: Sized {
-    ghost code_of: { Self → ℕ };
+    // the number of a value
+    ghost number_of: { Self → ℕ };
 
     // the numbers of no such value
     ghost stands_for_nothing: { ℕ → Type 0 };
@@ -21,18 +22,18 @@ pub trait Coded: Sized {
     ghost unknown_code: { ℕ → LineError };
 
     fn from_code(code: u32) -> Option<Self>
-        ensures { MatchOption result (stands_for_nothing code) (λ value. code_of value ≡ code) };
+        ensures { MatchOption result (stands_for_nothing code) (λ value. number_of value ≡ code) };
 
     fn unknown(code: u32) -> LineError
         ensures { result ≡ unknown_code code };
 }
 
 impl Coded for TextureFormat {
-    ghost code_of = { λ format. code_of format };
+    ghost number_of = { code_of };
 
-    ghost stands_for_nothing = { λ code. NoFormat code };
+    ghost stands_for_nothing = { NoFormat };
 
-    ghost unknown_code = { λ code. UnknownFormat code };
+    ghost unknown_code = { UnknownFormat };
 
     fn from_code(code: u32) -> Option<TextureFormat> {
         format_of(code)
@@ -44,11 +45,11 @@ impl Coded for TextureFormat {
 }
 
 impl Coded for TextureDimension {
-    ghost code_of = { λ dimension. dimension_code dimension };
+    ghost number_of = { dimension_code };
 
-    ghost stands_for_nothing = { λ code. NoDimension code };
+    ghost stands_for_nothing = { NoDimension };
 
-    ghost unknown_code = { λ code. UnknownDimension code };
+    ghost unknown_code = { UnknownDimension };
 
     fn from_code(code: u32) -> Option<TextureDimension> {
         dimension_of(code)
@@ -60,11 +61,11 @@ impl Coded for TextureDimension {
 }
 
 impl Coded for TextureViewDimension {
-    ghost code_of = { λ dimension. view_dimension_code dimension };
+    ghost number_of = { view_dimension_code };
 
-    ghost stands_for_nothing = { λ code. NoViewDimension code };
+    ghost stands_for_nothing = { NoViewDimension };
 
-    ghost unknown_code = { λ code. UnknownDimension code };
+    ghost unknown_code = { UnknownDimension };
 
     fn from_code(code: u32) -> Option<TextureViewDimension> {
         view_dimension_of(code)
@@ -77,7 +78,7 @@ impl Coded for TextureViewDimension {
 
 // The value with this number.
 pub fn decode<C: Coded>(code: u32) -> Result<C, LineError>
-    ensures { MatchResult result (λ value. C.code_of value ≡ code) (λ error. (error ≡ C.unknown_code code) × C.stands_for_nothing code) }
+    ensures { MatchResult result (λ value. C.number_of value ≡ code) (λ error. (error ≡ C.unknown_code code) × C.stands_for_nothing code) }
 {
     C::from_code(code).ok_or(C::unknown(code))
 }

@@ -1,17 +1,13 @@
 // Lines of a file of answers, from text to requests.
-ghost use Rattle.std.specs.Prelude.{◌≡◌, ℕ, [], ◌∷◌, map, MatchOption, MatchResult};
-ghost use Rattle.types.specs.Dimension.{dimension_code, view_dimension_code};
+ghost use Rattle.std.specs.Prelude.{◌≡◌, [], ◌∷◌, map, MatchResult};
 ghost use Rattle.types.specs.Format.{code_of};
-ghost use Rattle.answers.specs.Faults.{NoDimension, NoFormat, NoViewDimension, NumberFault, AspectFault, AnswerFault, CodeFault, WordFault, NumbersFault, FormatsFault, RequestFault, TextureFault, ViewFault, FeaturesFault, TextureMarkFault, AnyMarkFault, WordsFault, Fault};
+ghost use Rattle.answers.specs.Faults.{NumberFault, AspectFault, AnswerFault, CodeFault, WordFault, NumbersFault, FormatsFault, RequestFault, TextureFault, ViewFault, FeaturesFault, TextureMarkFault, AnyMarkFault, WordsFault, Fault};
 ghost use Rattle.answers.specs.Lines.{texts_of, Write, numbers_of, answer_word, Number, Omittable, IsAspect, Answered, ViewAnswered, TextureSays, AnySays, WordsSay, Says};
-ghost use Rattle.answers.specs.declared.line.LineError.{LineError};
-ghost use Rattle.answers.specs.declared.line.LineError.TheVariants.{UnknownDimension, UnknownFormat};
 
 use crate::coded::{Coded, decode};
 use crate::line::{Answer, AnyAnswer, Line, LineError, TextureAnswer, TextureRequest, ViewAnswer};
 use std::alloc::Global;
 use types::aspect::TextureAspect;
-use types::dimension::{TextureDimension, TextureViewDimension};
 use types::extent::Extent3d;
 use types::format::TextureFormat;
 use types::view_descriptor::{ImageSubresourceRange, TextureViewDescriptor};
@@ -40,9 +36,9 @@ fn marked_line<A: Answer>(heap: Global, mark: &str, fields: &[&str]) -> Result<L
 
 // A file of textures alone has lines with `T`.
 impl Answer for TextureAnswer {
-    ghost says = { λ mark fields answer. TextureSays mark fields answer };
+    ghost says = { TextureSays };
 
-    ghost fault = { λ mark fields error. TextureMarkFault mark fields error };
+    ghost fault = { TextureMarkFault };
 
     fn from_fields(heap: Global, mark: &str, fields: &[&str]) -> Result<TextureAnswer, LineError> {
         match mark {
@@ -54,9 +50,9 @@ impl Answer for TextureAnswer {
 
 // A file with views has lines with `V` too.
 impl Answer for AnyAnswer {
-    ghost says = { λ mark fields answer. AnySays mark fields answer };
+    ghost says = { AnySays };
 
-    ghost fault = { λ mark fields error. AnyMarkFault mark fields error };
+    ghost fault = { AnyMarkFault };
 
     fn from_fields(heap: Global, mark: &str, fields: &[&str]) -> Result<AnyAnswer, LineError> {
         match mark {
@@ -168,7 +164,7 @@ fn view_answer(words: &[&str]) -> Result<ViewAnswer, LineError>
 }
 
 fn optional_code<C: Coded>(word: &str) -> Result<Option<C>, LineError>
-    ensures { MatchResult result (λ value. Omittable (λ w v. Number w (C.code_of v)) word.now value) (λ error. WordFault (CodeFault C.stands_for_nothing C.unknown_code) word.now error) }
+    ensures { MatchResult result (λ value. Omittable (λ w v. Number w (C.number_of v)) word.now value) (λ error. WordFault (CodeFault C.stands_for_nothing C.unknown_code) word.now error) }
 {
     match optional_number(word)? {
         Some(code) => Ok(Some(decode(code)?)),

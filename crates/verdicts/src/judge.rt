@@ -17,6 +17,7 @@ pub struct JudgedTexture {
     pub texture: Option<Texture>,
 }
 
+// The verdict on the answer to a texture request, and the texture for the views that are asked of it.
 pub fn judge_texture(device: &Capabilities, answer: &TextureAnswer) -> JudgedTexture
     ensures { TextureJudged device.now answer.now result }
 {
@@ -42,7 +43,7 @@ fn descriptor(request: &TextureRequest) -> TextureDescriptor<'_>
     }
 }
 
-// A view of the texture is asked for.
+// The verdict on the answer to a request for a view of the texture.
 pub fn judge_view(device: &Capabilities, texture: &Texture, answer: &ViewAnswer) -> Verdict
     ensures { result ≡ view_verdict device.now texture.now answer.now }
 {

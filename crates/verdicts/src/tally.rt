@@ -39,9 +39,9 @@ pub fn refused_with(verdicts: &[Verdict], number: u32) -> usize
 {
     verdicts
         .iter()
-        .filter(|verdict| match verdict {
-            Verdict::BothRefuse(n) | Verdict::OnlyChecksRefuse(n) => *n == number,
-            _ => false,
-        })
+        .filter(|verdict| matches!(
+            verdict,
+            Verdict::BothRefuse(n) | Verdict::OnlyChecksRefuse(n) if *n == number
+        ))
         .count()
 }
