@@ -34,7 +34,7 @@ numbers_of t =
     ∷ t.sample_count
     ∷ dimension_code t.dimension
     ∷ code_of t.format
-    ∷ t.usage
+    ∷ t.usage.0
     ∷ length (vec_items t.view_formats)
     ∷ map code_of (vec_items t.view_formats)
 
@@ -70,7 +70,7 @@ pub record ViewAnswered (words : List (List ℕ)) (a : ViewAnswer) : Type 0 wher
   pub nine : length words ≡ 9
   pub format : Omittable (λ word f. Number word (code_of f)) (slice_index_or words 0 []) a.request.format
   pub dimension : Omittable (λ word d. Number word (view_dimension_code d)) (slice_index_or words 1 []) a.request.dimension
-  pub usage : Omittable Number (slice_index_or words 2 []) a.request.usage
+  pub usage : Omittable (λ word u. Number word u.0) (slice_index_or words 2 []) a.request.usage
   pub aspect : IsAspect (slice_index_or words 3 []) a.request.range.aspect
   pub first_level : Number (slice_index_or words 4 []) a.request.range.base_mip_level
   pub levels : Omittable Number (slice_index_or words 5 []) a.request.range.mip_level_count
@@ -90,7 +90,7 @@ AnySays mark fields (View a) = (mark ≡ codes "V") × ViewAnswered fields a
 -- what the words of a line say, by its mark, where other marks than `F` are those of answers
 abbrev pub WordsSay : {A : Type 0} → (List ℕ → List (List ℕ) → A → Type 0) → List ℕ → List (List ℕ) → Line A → Type 0
 WordsSay Say mark fields Comment = ⊥
-WordsSay Say mark fields (Features n) = (mark ≡ codes "F") × Write fields (n ∷ [])
+WordsSay Say mark fields (Features f) = (mark ≡ codes "F") × Write fields (f.0 ∷ [])
 WordsSay Say mark fields (Answer a) = (mark ≢ codes "F") × Say mark fields a
 
 -- a comment begins with '#'

@@ -6,7 +6,6 @@ ghost use Rattle.answers.specs.Faults.{NoDimension, NoFormat, NoViewDimension};
 ghost use Rattle.answers.specs.declared.line.LineError.{LineError};
 ghost use Rattle.answers.specs.declared.line.LineError.TheVariants.{UnknownDimension, UnknownFormat};
 
-use crate::codes::{dimension_of, format_of, view_dimension_of};
 use crate::line::LineError;
 use types::dimension::{TextureDimension, TextureViewDimension};
 use types::format::TextureFormat;
@@ -28,6 +27,7 @@ pub trait Coded: Sized {
         ensures { result ≡ unknown_code code };
 }
 
+// WebGPU does not have the planar format.
 impl Coded for TextureFormat {
     ghost number_of = { code_of };
 
@@ -36,7 +36,11 @@ impl Coded for TextureFormat {
     ghost unknown_code = { UnknownFormat };
 
     fn from_code(code: u32) -> Option<TextureFormat> {
-        format_of(code)
+        match TextureFormat::try_from(code) {
+            Ok(TextureFormat::NV12) => None,
+            Ok(format) => Some(format),
+            Err(_) => None,
+        }
     }
 
     fn unknown(code: u32) -> LineError {
@@ -52,7 +56,7 @@ impl Coded for TextureDimension {
     ghost unknown_code = { UnknownDimension };
 
     fn from_code(code: u32) -> Option<TextureDimension> {
-        dimension_of(code)
+        TextureDimension::try_from(code).ok()
     }
 
     fn unknown(code: u32) -> LineError {
@@ -68,7 +72,7 @@ impl Coded for TextureViewDimension {
     ghost unknown_code = { UnknownDimension };
 
     fn from_code(code: u32) -> Option<TextureViewDimension> {
-        view_dimension_of(code)
+        TextureViewDimension::try_from(code).ok()
     }
 
     fn unknown(code: u32) -> LineError {

@@ -2,7 +2,6 @@
 #![tactic(auto)]
 
 mod coded;
-mod codes;
 pub mod line;
 pub mod parse;
 #[cfg(test)]

@@ -7,14 +7,16 @@ ghost use Rattle.answers.specs.declared.line.LineError.TheVariants.{OutOfMemory}
 use std::alloc::{AllocError, AllocFailed, Global};
 use types::dimension::TextureDimension;
 use types::extent::Extent3d;
+use types::features::Features;
 use types::format::TextureFormat;
+use types::usages::TextureUsages;
 use types::view_descriptor::TextureViewDescriptor;
 
 #[derive(Drop)]
 pub enum Line<A> {
     Comment,
     // what the device can do from here on
-    Features(u32),
+    Features(Features),
     Answer(A),
 }
 
@@ -44,7 +46,7 @@ pub struct TextureRequest {
     pub sample_count: u32,
     pub dimension: TextureDimension,
     pub format: TextureFormat,
-    pub usage: u32,
+    pub usage: TextureUsages,
     pub view_formats: Vec<TextureFormat>,
 }
 

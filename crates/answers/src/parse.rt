@@ -9,7 +9,9 @@ use crate::line::{Answer, AnyAnswer, Line, LineError, TextureAnswer, TextureRequ
 use std::alloc::Global;
 use types::aspect::TextureAspect;
 use types::extent::Extent3d;
+use types::features::Features;
 use types::format::TextureFormat;
+use types::usages::TextureUsages;
 use types::view_descriptor::{ImageSubresourceRange, TextureViewDescriptor};
 
 pub fn parse_line<A: Answer>(heap: Global, text: &str) -> Result<Line<A>, LineError>
@@ -29,7 +31,7 @@ fn marked_line<A: Answer>(heap: Global, mark: &str, fields: &[&str]) -> Result<L
     ensures { MatchResult result (λ line. WordsSay A.says mark.now (texts_of fields.now) line) (λ error. WordsFault A.fault mark.now (texts_of fields.now) error) }
 {
     match mark {
-        "F" => Ok(Line::Features(features(fields)?)),
+        "F" => Ok(Line::Features(Features(features(fields)?))),
         _ => Ok(Line::Answer(A::from_fields(heap, mark, fields)?)),
     }
 }
@@ -114,7 +116,7 @@ fn texture_request(heap: Global, numbers: &[u32]) -> Result<TextureRequest, Line
         sample_count: *samples,
         dimension: decode(*dimension)?,
         format: decode(*format)?,
-        usage: *usage,
+        usage: TextureUsages(*usage),
         view_formats: texture_formats(heap, view_formats)?,
     })
 }
@@ -150,7 +152,7 @@ fn view_answer(words: &[&str]) -> Result<ViewAnswer, LineError>
         request: TextureViewDescriptor {
             format: optional_code(format)?,
             dimension: optional_code(dimension)?,
-            usage: optional_number(usage)?,
+            usage: optional_number(usage)?.map(|bits| TextureUsages(bits)),
             range: ImageSubresourceRange {
                 aspect: texture_aspect(aspect)?,
                 base_mip_level: number(first_level)?,

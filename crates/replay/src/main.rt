@@ -5,7 +5,7 @@ use answers::line::{Line, LineError, TextureAnswer};
 use answers::parse::parse_line;
 use std::{fs, io};
 use thiserror::Error;
-use verdicts::device::DEFAULT_DEVICE;
+use types::capabilities::Capabilities;
 use verdicts::judge::judge_texture;
 use verdicts::tally::{Totals, refused_with, totals_of};
 use verdicts::verdict::Verdict;
@@ -50,7 +50,7 @@ fn run(rt: &HostRuntime) -> anyhow::Result<()> {
 // The verdicts on the answers in the text, in their order.
 fn replay(rt: &HostRuntime, text: &str) -> anyhow::Result<Vec<Verdict>> {
     let heap = rt.alloc();
-    let mut device = DEFAULT_DEVICE;
+    let mut device = Capabilities::DEFAULT;
     let mut verdicts = Vec::new(heap);
     let mut shown = 0;
     for (index, text) in text.lines().enumerate() {

@@ -40,4 +40,4 @@ TextureJudged device a judged = (d : TextureDescriptor) × Judged device a d jud
 -- the verdict on what the checks answer to a view of the texture, its omitted fields filled in
 abbrev pub view_verdict : Capabilities → Texture → ViewAnswer → Verdict
 view_verdict device t a =
-    verdict_of (refusal_of view_number_of (outcome (view_checks device.features t (resolved t a.request)))) a.accepted
+    verdict_of (refusal_of view_number_of (outcome (view_checks device.features.0 t (resolved t a.request)))) a.accepted

@@ -5,6 +5,7 @@ ghost use Rattle.verdicts.specs.Requests.{Asks, TextureJudged, view_verdict};
 use crate::verdict::{Verdict, compare};
 use answers::line::{TextureAnswer, TextureRequest, ViewAnswer};
 use checks::accepted::accepted_texture;
+use checks::refusal::Refusal;
 use types::capabilities::Capabilities;
 use types::descriptor::TextureDescriptor;
 use types::texture::Texture;

@@ -1,7 +1,6 @@
 // Stored answers of a WebGPU implementation, judged by the checks.
 #![tactic(auto)]
 
-pub mod device;
 pub mod judge;
 pub mod tally;
 pub mod verdict;

@@ -5,7 +5,7 @@ use answers::line::{AnyAnswer, Line, LineError};
 use answers::parse::parse_line;
 use std::{fs, io};
 use thiserror::Error;
-use verdicts::device::DEFAULT_DEVICE;
+use types::capabilities::Capabilities;
 use verdicts::judge::{judge_texture, judge_view};
 use verdicts::tally::{Totals, refused_with, totals_of};
 use verdicts::verdict::Verdict;
@@ -59,7 +59,7 @@ fn run(rt: &HostRuntime) -> anyhow::Result<()> {
 
 fn replay(rt: &HostRuntime, text: &str) -> anyhow::Result<Verdicts> {
     let heap = rt.alloc();
-    let mut device = DEFAULT_DEVICE;
+    let mut device = Capabilities::DEFAULT;
     // the one that was last made
     let mut texture = None;
     let mut verdicts = Verdicts {
