@@ -3,11 +3,11 @@
 
 use answers::line::{Line, LineError, TextureAnswer};
 use answers::parse::parse_line;
-use std::{fs, io};
+use std::fs;
 use thiserror::Error;
 use types::capabilities::Capabilities;
 use verdicts::judge::judge_texture;
-use verdicts::tally::{Totals, refused_with, totals_of};
+use verdicts::report::{Names, print_tally};
 use verdicts::verdict::Verdict;
 
 const ANSWERS: &str = "webgpu-dawn.txt";
@@ -15,10 +15,10 @@ const ANSWERS: &str = "webgpu-dawn.txt";
 // Of the answers that differ, at most so many are printed.
 const MOST_SHOWN: usize = 20;
 
-// The numbers of the refusals of texture requests.
-const FIRST_REFUSAL: u32 = 3;
-
-const LAST_REFUSAL: u32 = 27;
+const NAMES: Names = Names {
+    before: "",
+    answers: "answers",
+};
 
 #[derive(Debug, Drop, Error)]
 enum ReplayError {
@@ -40,9 +40,9 @@ fn run(rt: &HostRuntime) -> anyhow::Result<()> {
     if verdicts.is_empty() {
         return Err(ReplayError::NoAnswers.into());
     }
-    let totals = print_tally(rt, verdicts.as_slice())?;
-    if totals.differing > 0 {
-        return Err(ReplayError::Differing(totals.differing).into());
+    let differing = print_tally(rt, NAMES, verdicts.as_slice())?;
+    if differing > 0 {
+        return Err(ReplayError::Differing(differing).into());
     }
     Ok(())
 }
@@ -75,22 +75,4 @@ fn replay(rt: &HostRuntime, text: &str) -> anyhow::Result<Vec<Verdict>> {
         }
     }
     Ok(verdicts)
-}
-
-fn print_tally(rt: &HostRuntime, verdicts: &[Verdict]) -> io::Result<Totals> {
-    let totals = totals_of(verdicts);
-    let accepted = totals.accepted;
-    let refused = totals.refused;
-    println!(rt; "{accepted} accepted by both, {refused} refused by both")?;
-    for number in FIRST_REFUSAL..=LAST_REFUSAL {
-        let count = refused_with(verdicts, number);
-        if count > 0 {
-            println!(rt; "refusal {number}: {count}")?;
-        }
-    }
-    let compared = verdicts.len();
-    let agreeing = accepted + refused;
-    let differing = totals.differing;
-    println!(rt; "{compared} answers compared, {agreeing} agree, {differing} differ")?;
-    Ok(totals)
 }

@@ -2,5 +2,6 @@
 #![tactic(auto)]
 
 pub mod judge;
+pub mod report;
 pub mod tally;
 pub mod verdict;

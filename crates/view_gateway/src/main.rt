@@ -2,8 +2,6 @@
 // views of them, and what each request is worth before the host is asked.
 #![tactic(auto)]
 
-use checks::accepted::accepted_texture;
-use checks::clear_views::clear_views_needed;
 use containers::device::DEVICE;
 use containers::request::{Request, ViewRequest};
 use containers::{barcode_camera, operator_panel, overview_camera};
@@ -12,9 +10,8 @@ use types::texture::Texture;
 use types::view::TextureView;
 use view_checks::selection::select_alike;
 use view_checks::view::check_view_descriptor;
-use wording::accepted_text::AcceptedText;
 use wording::refusal_text::RefusalText;
-use wording::request_text::RequestText;
+use wording::report::report_texture;
 use wording::view_text::ViewText;
 
 fn main(rt: HostRuntime) -> io::Result<()> {
@@ -37,19 +34,9 @@ fn serve(rt: &impl Print, requests: &[Request]) -> io::Result<()> {
 
 // The texture, and views of it if it is accepted.
 fn serve_texture(rt: &impl Print, request: &Request) -> io::Result<()> {
-    let desc = &request.desc;
-    let what = request.what;
-    println!(rt; "  {}", RequestText { what, desc })?;
-    match accepted_texture(&DEVICE, desc) {
-        Ok(texture) => {
-            let accepted = AcceptedText {
-                texture: &texture,
-                clear_views: clear_views_needed(desc, texture.hal_usage),
-            };
-            println!(rt; "    {accepted}")?;
-            serve_views(rt, &texture, request.views)
-        }
-        Err(error) => println!(rt; "    {}", RefusalText { error: &error }),
+    match report_texture(rt, &DEVICE, request.what, &request.desc)? {
+        Some(texture) => serve_views(rt, &texture, request.views),
+        None => Ok(()),
     }
 }
 

@@ -3,11 +3,11 @@
 
 use answers::line::{AnyAnswer, Line, LineError};
 use answers::parse::parse_line;
-use std::{fs, io};
+use std::fs;
 use thiserror::Error;
 use types::capabilities::Capabilities;
 use verdicts::judge::{judge_texture, judge_view};
-use verdicts::tally::{Totals, refused_with, totals_of};
+use verdicts::report::{Names, print_tally};
 use verdicts::verdict::Verdict;
 
 const ANSWERS: &str = "webgpu-dawn.txt";
@@ -15,10 +15,15 @@ const ANSWERS: &str = "webgpu-dawn.txt";
 // Of the answers that differ, at most so many are printed.
 const MOST_SHOWN: usize = 20;
 
-// The numbers of the refusals of textures and of views lie from the one to the other.
-const FIRST_REFUSAL: u32 = 3;
+const TEXTURES: Names = Names {
+    before: "texture requests: ",
+    answers: "texture answers",
+};
 
-const LAST_REFUSAL: u32 = 48;
+const VIEWS: Names = Names {
+    before: "view requests: ",
+    answers: "view answers",
+};
 
 #[derive(Debug, Drop, Error)]
 enum ReplayError {
@@ -49,8 +54,8 @@ fn run(rt: &HostRuntime) -> anyhow::Result<()> {
     if verdicts.textures.is_empty() || verdicts.views.is_empty() {
         return Err(ReplayError::NoAnswers.into());
     }
-    let textures = print_tally(rt, "texture", verdicts.textures.as_slice())?.differing;
-    let views = print_tally(rt, "view", verdicts.views.as_slice())?.differing;
+    let textures = print_tally(rt, TEXTURES, verdicts.textures.as_slice())?;
+    let views = print_tally(rt, VIEWS, verdicts.views.as_slice())?;
     if textures > 0 || views > 0 {
         return Err(ReplayError::Differing { textures, views }.into());
     }
@@ -100,22 +105,4 @@ fn replay(rt: &HostRuntime, text: &str) -> anyhow::Result<Verdicts> {
         }
     }
     Ok(verdicts)
-}
-
-fn print_tally(rt: &HostRuntime, what: &str, verdicts: &[Verdict]) -> io::Result<Totals> {
-    let totals = totals_of(verdicts);
-    let accepted = totals.accepted;
-    let refused = totals.refused;
-    println!(rt; "{what} requests: {accepted} accepted by both, {refused} refused by both")?;
-    for number in FIRST_REFUSAL..=LAST_REFUSAL {
-        let count = refused_with(verdicts, number);
-        if count > 0 {
-            println!(rt; "refusal {number}: {count}")?;
-        }
-    }
-    let compared = verdicts.len();
-    let agreeing = accepted + refused;
-    let differing = totals.differing;
-    println!(rt; "{compared} {what} answers compared, {agreeing} agree, {differing} differ")?;
-    Ok(totals)
 }

@@ -4,6 +4,7 @@
 pub mod accepted_text;
 mod extent_text;
 pub mod refusal_text;
+pub mod report;
 pub mod request_text;
 mod texture_words;
 pub mod view_text;
