@@ -8,7 +8,7 @@ use crate::error::{
 };
 use types::bits::BitSet;
 
-// A refused request.
+// A refused request. The container knows its reason by a number, so the numbers stay beside the error enums.
 pub trait Refusal {
     ghost number_of: { Self → ℕ };
 
@@ -21,7 +21,8 @@ pub trait Refusal {
         ensures { listed result ≡ values_of self.now };
 }
 
-// What a refusal carries, as numbers: a format by its code, a side as 1 to 3, a dimension as 1 to 3, a yes as 1.
+// What a refusal carries, as numbers: a format by its code, a side as 1 to 3, a dimension as 1 to 3, a yes as 1. None to three of
+// them, held here and not on the heap, since nothing may allocate on the path of a call.
 #[derive(Clone, Copy, Debug, PartialEq, Eq)]
 pub enum Values {
     Nothing,

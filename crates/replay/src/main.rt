@@ -47,7 +47,8 @@ fn run(rt: &HostRuntime) -> anyhow::Result<()> {
     Ok(())
 }
 
-// The verdicts on the answers in the text, in their order.
+// The verdicts on the answers in the text, in their order. The loop is this program's own: the one of `view_replay` differs from it
+// in all that it does with an answer.
 fn replay(rt: &HostRuntime, text: &str) -> anyhow::Result<Vec<Verdict>> {
     let heap = rt.alloc();
     let mut device = Capabilities::DEFAULT;

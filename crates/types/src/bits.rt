@@ -1,6 +1,6 @@
 // Sets of flags, one bit each: usages, aspects, features. Each kind is a type of its own, and any bits can stand in a set, also
 // those that no flag has.
-ghost use Rattle.std.specs.Prelude.{◌≡◌, ◌==◌, ℕ, bit_and, bit_or};
+ghost use Rattle.std.specs.Prelude.{◌≡◌, ◌==◌, ◌≤◌, ℕ, bit_and, bit_or};
 ghost use Rattle.types.specs.Bits.{contains, intersects, difference, map_bit};
 
 // The kinds are tuple structs with an impl of two lines, and not one struct over a parameter: only so can a constant write
@@ -55,7 +55,8 @@ pub trait BitSet: Copy {
 
     // `to`, flags of another kind, where the set holds each flag of `from`, else none.
     final fn map_bit<To: BitSet>(self, from: Self, to: To) -> To
-        ensures { To.bits_of result ≡ map_bit (bits_of self) (bits_of from) (To.bits_of to) }
+        ensures value { To.bits_of result ≡ map_bit (bits_of self) (bits_of from) (To.bits_of to) }
+        ensures bound { To.bits_of result ≤ To.bits_of to }
     {
         if self.contains(from) {
             to

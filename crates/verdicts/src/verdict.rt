@@ -2,7 +2,7 @@
 ghost use Rattle.std.specs.Prelude.{◌≡◌};
 ghost use Rattle.verdicts.specs.Verdicts.{verdict_of, differs};
 
-// A refusal of the checks goes by its number.
+// A refusal of the checks goes by its number, so that one verdict serves the errors of textures and of views.
 #[derive(Clone, Copy, Debug, PartialEq, Eq)]
 pub enum Verdict {
     BothAccept,
