@@ -1,7 +1,8 @@
 // The texture formats that the broker knows, under wgpu's names.
 ghost use Rattle.std.specs.Prelude.{◌≡◌};
 ghost use Rattle.types.specs.Code.{Decodes};
-ghost use Rattle.types.specs.Format.{code_of};
+ghost use Rattle.types.specs.Format.{code_of, same_format};
+ghost use Rattle.types.specs.declared.format.TextureFormat.{TextureFormat as Format};
 
 use crate::code::UnknownCode;
 
@@ -73,3 +74,8 @@ impl TryFrom<u32> for TextureFormat {
         }
     }
 }
+
+// A theorem: two formats are equal where their codes are.
+pub fn equal_by_code()
+    ensures { (a b : Format) → ⟦<TextureFormat as PartialEq>⟧.eq a b ≡ same_format a b }
+{}
