@@ -54,10 +54,9 @@ fn resolve_format(
 ) -> TextureFormat
     ensures { result ≡ filled_format texture aspect format }
 {
-    match format {
-        Some(format) => format,
-        None => texture.aspect_specific_format(aspect).unwrap_or(texture),
-    }
+    format
+        .or(texture.aspect_specific_format(aspect))
+        .unwrap_or(texture)
 }
 
 // The texture's own dimension; several layers are viewed as an array.
