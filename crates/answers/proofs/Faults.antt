@@ -1,10 +1,10 @@
 -- A fault in a part of a line, as a fault of the whole.
 use Rattle.std.proofs.Common.{◌≡◌, ℕ, ◌+◌, ◌-◌, ◌<◌, ◌≤◌, List, [], length, get_or, take, drop, IsErrAnd, Ok, Err, Result, sym, refl, ap, ◌∙◌, subst, inl, inr, arith, Bor, MatchResult}
-use Rattle.std.proofs.ByRecursion.{All-get_or}
+use Rattle.std.proofs.lemmas.List.Elements.{All-get_or}
 use Rattle.std.proofs.lemmas.List.{get_or-drop, get_or-map, get_or-take, length-drop, length-map, length-take-le, take-map, take_rest}
 use Rattle.std.proofs.lemmas.Bool.{cases_lt}
 use Rattle.std.specs.Str.Parse.{IsNumeral, digits_value}
-use Rattle.answers.specs.Faults.{AnswerFault, FormatsFault, NumberFault, NumbersFault, RequestFault, TextureFault, WritesAt}
+use Rattle.answers.specs.Faults.{FormatsFault, NumbersFault, RequestFault, TextureFault, WritesAt}
 use Rattle.answers.specs.Lines.{Write, texts_of}
 use Rattle.answers.specs.declared.line.LineError.{LineError}
 use Rattle.answers.specs.declared.line.LineError.TheVariants.{UnknownMark, WrongFieldCount, NotDecimal, UnknownDimension, UnknownFormat, UnknownAspect, UnknownAnswer, OutOfMemory}
@@ -14,13 +14,6 @@ pub hands_on : {T : Type 0} (r : Result T LineError) (P : T → Type 0) (Q : Lin
     → IsErrAnd r (λ e. e ≡ error) → Q error → MatchResult r P Q
 hands_on (Ok x) P Q error same fault = absurd same
 hands_on (Err e) P Q error same fault = subst Q (sym same) fault
-
--- a word that is no number, among others
-pub not_decimal_at : (words : List (Bor (List ℕ))) (i : ℕ) (d : Bor (List ℕ)) (error : LineError) → i < length words
-    → NumberFault (get_or words i d).now error → NumbersFault (texts_of words) error
-not_decimal_at words i d error within h =
-    subst (NumbersFault (texts_of words)) (sym h.0)
-    (i, rw (length-map words (λ word. word.now)) within, rw (get_or-map (λ word. word.now) words i d [] within) h.1)
 
 -- view formats stand after the first nine numbers
 pub formats_in_request : (ns : List ℕ) (error : LineError) → 9 ≤ length ns
@@ -92,14 +85,6 @@ module _ (fields : List (List ℕ)) (ns : List ℕ) (some : 1 ≤ length fields)
   request_in_line UnknownAspect h = absurd h
   request_in_line UnknownAnswer h = absurd h
   request_in_line OutOfMemory h = tt
-
--- the last word is no answer
-pub answer_in_line : (words : List (Bor (List ℕ))) (d : Bor (List ℕ)) (error : LineError) → 1 ≤ length words
-    → AnswerFault (get_or words (length words - 1) d).now error → TextureFault (texts_of words) error
-answer_in_line words d error some h =
-    let last : length words - 1 < length words = omega arith in
-    subst (TextureFault (texts_of words)) (sym h.0)
-    (rw (length-map words (λ word. word.now)) (some, rw (get_or-map (λ word. word.now) words (length words - 1) d [] last) h.1))
 
 -- all words but the last, as texts
 pub front_texts : (words : List (Bor (List ℕ)))

@@ -1,63 +1,10 @@
 -- Words and numbers of a line, taken apart and put together.
-use Rattle.std.proofs.Common.{◌≡◌, ℕ, ◌+◌, ◌-◌, ◌<◌, ◌≤◌, Bool, true, false, List, [], ◌∷◌, ◌++◌, length, get_or, take, drop, Ok, Err, Decides, Result, sym, refl, ap, ◌∙◌, subst, arith, Bor, MatchResult}
-use Rattle.std.proofs.ByRecursion.{All-from_get_or, All-map, All-push}
-use Rattle.std.proofs.lemmas.List.{drop_more, map_more, map_push, take_all, take_rest}
+use Rattle.std.proofs.Common.{◌≡◌, ℕ, ◌-◌, ◌<◌, ◌≤◌, All, Bool, true, false, List, ◌∷◌, length, get_or, take, drop, Decides, sym, refl, ap, ◌∙◌, subst, arith, Bor}
+use Rattle.std.proofs.lemmas.List.Elements.{All-from_get_or, All-map}
+use Rattle.std.proofs.lemmas.List.{drop_more, take_rest}
 use Rattle.std.specs.Str.Iter.{LacksByte}
-use Rattle.std.specs.List.{join_with_byte, AllByRecursion}
-use Rattle.std.specs.Str.Parse.{IsNumeral, digits_value}
-use Rattle.answers.specs.Faults.{FeaturesFault, NumberFault}
-use Rattle.answers.specs.Lines.{Number, Words, Write, texts_of}
-use Rattle.answers.specs.declared.line.LineError.{LineError}
-
--- one word more
-pub write_more : (words : List (Bor (List ℕ))) (numbers : List ℕ) (i : ℕ) (d : Bor (List ℕ)) → i < length words
-    → Write (texts_of (take i words)) numbers → IsNumeral 10 (get_or words i d).now
-    → Write (texts_of (take (i + 1) words)) (numbers ++ digits_value 10 (get_or words i d).now ∷ [])
-write_more words numbers i d within w numeral =
-    rw (map_more (λ word. word.now) words i d within)
-    (All-push (IsNumeral 10) _ _ w.0 numeral, map_push (digits_value 10) _ _ ∙ ap (λ ns. ns ++ digits_value 10 (get_or words i d).now ∷ []) w.1)
-
--- the number of a line that has one
-pub one_number : (words : List (Bor (List ℕ))) (d : Bor (List ℕ)) (r : Result ℕ LineError) → length words ≡ 1
-    → MatchResult r (λ n. Number (get_or words 0 d).now n) (λ error. NumberFault (get_or words 0 d).now error)
-    → MatchResult r (λ n. Write (texts_of words) (n ∷ [])) (λ error. FeaturesFault (texts_of words) error)
-one_number (word ∷ []) d (Ok n) one h = ((h.0, tt), ap (λ v. v ∷ []) h.1)
-one_number (word ∷ []) d (Err e) one h = subst (FeaturesFault (word.now ∷ [])) (sym h.0) (refl, h.1)
-one_number [] d r one h = absurd (omega arith)
-one_number (word ∷ second ∷ words) d r one h = absurd (omega arith)
-
--- the first nine of a list, and the others
-pub nine_and_rest : {X : Type 0} (xs : List X) (d : X) → 9 ≤ length xs
-    → get_or xs 0 d ∷ get_or xs 1 d ∷ get_or xs 2 d ∷ get_or xs 3 d ∷ get_or xs 4 d ∷ get_or xs 5 d ∷ get_or xs 6 d ∷ get_or xs 7 d ∷ get_or xs 8 d ∷ drop 9 xs ≡ xs
-nine_and_rest xs d long =
-    let e0 = drop_more xs 0 d (omega arith) in
-    let e1 = drop_more xs 1 d (omega arith) in
-    let e2 = drop_more xs 2 d (omega arith) in
-    let e3 = drop_more xs 3 d (omega arith) in
-    let e4 = drop_more xs 4 d (omega arith) in
-    let e5 = drop_more xs 5 d (omega arith) in
-    let e6 = drop_more xs 6 d (omega arith) in
-    let e7 = drop_more xs 7 d (omega arith) in
-    let e8 = drop_more xs 8 d (omega arith) in
-    cc
-
--- a request's numbers, where a dimension, a format, and the view formats with their count stand for some
-pub request_numbers : (ns : List ℕ) (dimension format count : ℕ) (views : List ℕ) → 9 ≤ length ns
-    → dimension ≡ get_or ns 5 0 → format ≡ get_or ns 6 0 → count ≡ length views
-    → views ≡ take (length ns - 9) (drop 9 ns) → get_or ns 8 0 ≡ length (take (length ns - 9) (drop 9 ns))
-    → get_or ns 0 0 ∷ get_or ns 1 0 ∷ get_or ns 2 0 ∷ get_or ns 3 0 ∷ get_or ns 4 0 ∷ dimension ∷ format ∷ get_or ns 7 0 ∷ count ∷ views ≡ ns
-request_numbers ns dimension format count views long d f n v e =
-    let all = nine_and_rest ns 0 long in
-    let rest = take_rest ns 9 in
-    cc
-
--- all words but the last, and the last
-pub front_and_last : (words : List (Bor (List ℕ))) (d : Bor (List ℕ)) (last : List ℕ) → 1 ≤ length words
-    → (get_or words (length words - 1) d).now ≡ last → texts_of words ≡ texts_of (take (length words - 1) words) ++ last ∷ []
-front_and_last words d last some e =
-    ap texts_of (sym (take_all (length words - 1 + 1) words (omega arith)))
-    ∙ map_more (λ word. word.now) words (length words - 1) d (omega arith)
-    ∙ ap (λ text. texts_of (take (length words - 1) words) ++ text ∷ []) e
+use Rattle.std.specs.List.{join_with_byte}
+use Rattle.answers.specs.Lines.{Words, texts_of}
 
 -- the words of a line: its mark, and the others as the rest of the slice
 pub mark_and_rest : (text : List ℕ) (items words : List (Bor (List ℕ))) (d : Bor (List ℕ)) → text ≡ join_with_byte 32 (texts_of items)
@@ -68,7 +15,7 @@ mark_and_rest text items words d joined lack same some =
     let rest = take_rest words 1 in
     let parts : texts_of items ≡ (get_or words 0 d).now ∷ texts_of (take (length words - 1) (drop 1 words)) = ap texts_of (sym same ∙ first) ∙ (rw rest refl) in
     let spaceless = All-map (LacksByte 32) (λ word. word.now) items (All-from_get_or (λ word. LacksByte 32 word.now) items d (λ k. lack k d)) in
-    (joined ∙ ap (join_with_byte 32) parts, subst (AllByRecursion (LacksByte 32)) parts spaceless)
+    (joined ∙ ap (join_with_byte 32) parts, subst (All (LacksByte 32)) parts spaceless)
 
 -- what a test decides does not hold where it came out false
 pub not_decided : (b : Bool) (P : Type 0) → Decides b P → b ≡ false → P → ⊥

@@ -1,3 +1,3 @@
+pub mod Codes
 pub mod Faults
 pub mod Fields
-pub mod Views

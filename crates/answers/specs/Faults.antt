@@ -128,17 +128,27 @@ ViewFault fields error =
     ((error ≡ WrongFieldCount) × (length fields ≢ 9))
     ⊎ ((length fields ≡ 9) × FieldFault fields error)
 
--- what is wrong with the words of a line, by its mark
-abbrev pub WordsFault : List ℕ → List (List ℕ) → LineError → Type 0
-WordsFault mark fields error =
+-- what is wrong after a mark where a file has answers on textures alone
+abbrev pub TextureMarkFault : List ℕ → List (List ℕ) → LineError → Type 0
+TextureMarkFault mark fields error =
+    ((mark ≡ codes "T") × TextureFault fields error)
+    ⊎ ((mark ≢ codes "T") × (error ≡ UnknownMark))
+
+-- what is wrong where it has answers on views too
+abbrev pub AnyMarkFault : List ℕ → List (List ℕ) → LineError → Type 0
+AnyMarkFault mark fields error =
+    ((mark ≡ codes "V") × ViewFault fields error)
+    ⊎ ((mark ≢ codes "V") × TextureMarkFault mark fields error)
+
+-- what is wrong with the words of a line, by its mark, where other marks than `F` are those of answers
+abbrev pub WordsFault : (List ℕ → List (List ℕ) → LineError → Type 0) → List ℕ → List (List ℕ) → LineError → Type 0
+WordsFault Wrong mark fields error =
     ((mark ≡ codes "F") × FeaturesFault fields error)
-    ⊎ ((mark ≡ codes "T") × TextureFault fields error)
-    ⊎ ((mark ≡ codes "V") × ViewFault fields error)
-    ⊎ ((mark ≢ codes "F") × (mark ≢ codes "T") × (mark ≢ codes "V") × (error ≡ UnknownMark))
+    ⊎ ((mark ≢ codes "F") × Wrong mark fields error)
 
 -- A line that is refused is no comment. Either memory ran out, of which nothing more is claimed, or the line's words have the fault.
-abbrev pub Fault : List ℕ → LineError → Type 0
-Fault text error =
+abbrev pub Fault : (List ℕ → List (List ℕ) → LineError → Type 0) → List ℕ → LineError → Type 0
+Fault Wrong text error =
     (Commented text → ⊥)
     × ((error ≡ OutOfMemory)
-    ⊎ ((mark : List ℕ) × (fields : List (List ℕ)) × Words text mark fields × WordsFault mark fields error))
+    ⊎ ((mark : List ℕ) × (fields : List (List ℕ)) × Words text mark fields × WordsFault Wrong mark fields error))

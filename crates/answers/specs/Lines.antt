@@ -1,15 +1,17 @@
 -- What a line of a file of answers says.
-use Rattle.std.specs.Prelude.{◌≡◌, ℕ, Bool, true, false, ◌⊎◌, List, [], ◌∷◌, ◌++◌, map, length, get_or, Some, None, vec_items, codes, Option, slice_index, slice_index_or}
+use Rattle.std.specs.Prelude.{◌≡◌, ◌≢◌, ℕ, Bool, true, false, ◌⊎◌, List, [], ◌∷◌, ◌++◌, All, map, length, Some, None, vec_items, codes, Option, slice_index, slice_index_or}
 use Rattle.std.specs.Borrow.{Bor}
 use Rattle.std.specs.Str.Iter.{LacksByte}
-use Rattle.std.specs.List.{join_with_byte, AllByRecursion}
+use Rattle.std.specs.List.{join_with_byte}
 use Rattle.std.specs.Str.Parse.{IsNumeral, digits_value}
 use Rattle.types.specs.Dimension.{dimension_code, view_dimension_code}
 use Rattle.types.specs.Format.{code_of}
 use Rattle.types.specs.declared.aspect.TextureAspect.{TextureAspect}
 use Rattle.types.specs.declared.aspect.TextureAspect.TheVariants.{All as Every, DepthOnly, StencilOnly, Plane0, Plane1}
+use Rattle.answers.specs.declared.line.AnyAnswer.{AnyAnswer}
+use Rattle.answers.specs.declared.line.AnyAnswer.TheVariants.{Texture, View}
 use Rattle.answers.specs.declared.line.Line.{Line}
-use Rattle.answers.specs.declared.line.Line.TheVariants.{Comment, Features, Texture, View}
+use Rattle.answers.specs.declared.line.Line.TheVariants.{Comment, Features, Answer}
 use Rattle.answers.specs.declared.line.TextureAnswer.{TextureAnswer}
 use Rattle.answers.specs.declared.line.TextureRequest.{TextureRequest}
 use Rattle.answers.specs.declared.line.ViewAnswer.{ViewAnswer}
@@ -20,7 +22,7 @@ texts_of words = map (λ word. word.now) words
 
 -- words of decimal digits, and the numbers that they write
 abbrev pub Write : List (List ℕ) → List ℕ → Type 0
-Write words numbers = AllByRecursion (IsNumeral 10) words × (map (digits_value 10) words ≡ numbers)
+Write words numbers = All (IsNumeral 10) words × (map (digits_value 10) words ≡ numbers)
 
 -- the numbers of a request, in the order of the line's fields
 abbrev pub numbers_of : TextureRequest → List ℕ
@@ -32,7 +34,7 @@ numbers_of t =
     ∷ t.sample_count
     ∷ dimension_code t.dimension
     ∷ code_of t.format
-    ∷ t.usage
+    ∷ t.usage.0
     ∷ length (vec_items t.view_formats)
     ∷ map code_of (vec_items t.view_formats)
 
@@ -68,20 +70,28 @@ pub record ViewAnswered (words : List (List ℕ)) (a : ViewAnswer) : Type 0 wher
   pub nine : length words ≡ 9
   pub format : Omittable (λ word f. Number word (code_of f)) (slice_index_or words 0 []) a.request.format
   pub dimension : Omittable (λ word d. Number word (view_dimension_code d)) (slice_index_or words 1 []) a.request.dimension
-  pub usage : Omittable Number (slice_index_or words 2 []) a.request.usage
+  pub usage : Omittable (λ word u. Number word u.0) (slice_index_or words 2 []) a.request.usage
   pub aspect : IsAspect (slice_index_or words 3 []) a.request.range.aspect
   pub first_level : Number (slice_index_or words 4 []) a.request.range.base_mip_level
   pub levels : Omittable Number (slice_index_or words 5 []) a.request.range.mip_level_count
   pub first_layer : Number (slice_index_or words 6 []) a.request.range.base_array_layer
   pub layers : Omittable Number (slice_index_or words 7 []) a.request.range.array_layer_count
-  pub answer : get_or words 8 [] ≡ answer_word a.accepted
+  pub answer : slice_index_or words 8 [] ≡ answer_word a.accepted
 
--- what the words of a line say, by its mark
-abbrev pub WordsSay : List ℕ → List (List ℕ) → Line → Type 0
-WordsSay mark fields Comment = ⊥
-WordsSay mark fields (Features n) = (mark ≡ codes "F") × Write fields (n ∷ [])
-WordsSay mark fields (Texture a) = (mark ≡ codes "T") × Answered fields a
-WordsSay mark fields (View a) = (mark ≡ codes "V") × ViewAnswered fields a
+-- what the fields after a mark say where a file has answers on textures alone
+abbrev pub TextureSays : List ℕ → List (List ℕ) → TextureAnswer → Type 0
+TextureSays mark fields a = (mark ≡ codes "T") × Answered fields a
+
+-- what they say where it has answers on views too
+abbrev pub AnySays : List ℕ → List (List ℕ) → AnyAnswer → Type 0
+AnySays mark fields (Texture a) = TextureSays mark fields a
+AnySays mark fields (View a) = (mark ≡ codes "V") × ViewAnswered fields a
+
+-- what the words of a line say, by its mark, where other marks than `F` are those of answers
+abbrev pub WordsSay : {A : Type 0} → (List ℕ → List (List ℕ) → A → Type 0) → List ℕ → List (List ℕ) → Line A → Type 0
+WordsSay Say mark fields Comment = ⊥
+WordsSay Say mark fields (Features f) = (mark ≡ codes "F") × Write fields (f.0 ∷ [])
+WordsSay Say mark fields (Answer a) = (mark ≢ codes "F") × Say mark fields a
 
 -- a comment begins with '#'
 abbrev pub Commented : List ℕ → Type 0
@@ -89,9 +99,10 @@ Commented text = slice_index text 0 ≡ 35
 
 -- the mark of a line and its fields, with a space between each two and none inside
 abbrev pub Words : List ℕ → List ℕ → List (List ℕ) → Type 0
-Words text mark fields = (text ≡ join_with_byte 32 (mark ∷ fields)) × AllByRecursion (LacksByte 32) (mark ∷ fields)
+Words text mark fields = (text ≡ join_with_byte 32 (mark ∷ fields)) × All (LacksByte 32) (mark ∷ fields)
 
-abbrev pub Says : List ℕ → Line → Type 0
-Says text line =
+-- what a line says, where the fields of its answers say so much
+abbrev pub Says : {A : Type 0} → (List ℕ → List (List ℕ) → A → Type 0) → List ℕ → Line A → Type 0
+Says Say text line =
     (Commented text × (line ≡ Comment))
-    ⊎ ((Commented text → ⊥) × ((mark : List ℕ) × (fields : List (List ℕ)) × Words text mark fields × WordsSay mark fields line))
+    ⊎ ((Commented text → ⊥) × ((mark : List ℕ) × (fields : List (List ℕ)) × Words text mark fields × WordsSay Say mark fields line))

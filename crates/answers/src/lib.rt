@@ -1,6 +1,8 @@
 // Files of stored answers: what a line says, from text to requests.
 #![tactic(auto)]
 
-mod codes;
+mod coded;
 pub mod line;
 pub mod parse;
+#[cfg(test)]
+mod tests;

@@ -1,20 +1,35 @@
 // What a line of a file of answers holds.
-ghost use Rattle.std.specs.Prelude.{◌≡◌};
+ghost use Rattle.std.specs.Prelude.{◌≡◌, ℕ, List, MatchResult};
+ghost use Rattle.answers.specs.Lines.{texts_of};
+ghost use Rattle.answers.specs.declared.line.LineError.{LineError};
 ghost use Rattle.answers.specs.declared.line.LineError.TheVariants.{OutOfMemory};
 
-use std::alloc::{AllocError, AllocFailed};
+use std::alloc::{AllocError, AllocFailed, Global};
 use types::dimension::TextureDimension;
 use types::extent::Extent3d;
+use types::features::Features;
 use types::format::TextureFormat;
+use types::usages::TextureUsages;
 use types::view_descriptor::TextureViewDescriptor;
 
 #[derive(Drop)]
-pub enum Line {
+pub enum Line<A> {
     Comment,
     // what the device can do from here on
-    Features(u32),
-    Texture(TextureAnswer),
-    View(ViewAnswer),
+    Features(Features),
+    Answer(A),
+}
+
+// The answers that a program reads: each kind has its marks.
+pub trait Answer: Sized + Drop {
+    // Holds of a mark, the fields after it, and the answer that they write.
+    ghost says: { List ℕ → List (List ℕ) → Self → Type 0 };
+
+    // Holds of a mark, the fields after it, and each error by which they may be refused.
+    ghost fault: { List ℕ → List (List ℕ) → LineError → Type 0 };
+
+    fn from_fields(heap: Global, mark: &str, fields: &[&str]) -> Result<Self, LineError>
+        ensures { MatchResult result (λ answer. says mark.now (texts_of fields.now) answer) (λ error. fault mark.now (texts_of fields.now) error) };
 }
 
 // A request, and whether the implementation accepted it.
@@ -31,7 +46,7 @@ pub struct TextureRequest {
     pub sample_count: u32,
     pub dimension: TextureDimension,
     pub format: TextureFormat,
-    pub usage: u32,
+    pub usage: TextureUsages,
     pub view_formats: Vec<TextureFormat>,
 }
 
@@ -42,8 +57,15 @@ pub struct ViewAnswer {
     pub accepted: bool,
 }
 
+// An answer of either kind.
+#[derive(Drop)]
+pub enum AnyAnswer {
+    Texture(TextureAnswer),
+    View(ViewAnswer),
+}
+
 // Why a line cannot be read.
-#[derive(Clone, Copy, Debug)]
+#[derive(Clone, Copy, Debug, PartialEq, Eq)]
 pub enum LineError {
     UnknownMark,
     WrongFieldCount,

@@ -1,22 +1,21 @@
 // Lines of a file of answers, from text to requests.
 ghost use Rattle.std.specs.Prelude.{◌≡◌, [], ◌∷◌, map, MatchResult};
-ghost use Rattle.types.specs.Dimension.{dimension_code, view_dimension_code};
 ghost use Rattle.types.specs.Format.{code_of};
-ghost use Rattle.answers.specs.Faults.{NoDimension, NoFormat, NoViewDimension, NumberFault, AspectFault, AnswerFault, CodeFault, WordFault, NumbersFault, FormatsFault, RequestFault, TextureFault, ViewFault, FeaturesFault, WordsFault, Fault};
-ghost use Rattle.answers.specs.Lines.{texts_of, Write, numbers_of, answer_word, Number, Omittable, IsAspect, Answered, ViewAnswered, WordsSay, Says};
-ghost use Rattle.answers.specs.declared.line.LineError.TheVariants.{UnknownDimension, UnknownFormat};
+ghost use Rattle.answers.specs.Faults.{NumberFault, AspectFault, AnswerFault, CodeFault, WordFault, NumbersFault, FormatsFault, RequestFault, TextureFault, ViewFault, FeaturesFault, TextureMarkFault, AnyMarkFault, WordsFault, Fault};
+ghost use Rattle.answers.specs.Lines.{texts_of, Write, numbers_of, answer_word, Number, Omittable, IsAspect, Answered, ViewAnswered, TextureSays, AnySays, WordsSay, Says};
 
-use crate::codes::{dimension_of, format_of, view_dimension_of};
-use crate::line::{Line, LineError, TextureAnswer, TextureRequest, ViewAnswer};
+use crate::coded::{Coded, decode};
+use crate::line::{Answer, AnyAnswer, Line, LineError, TextureAnswer, TextureRequest, ViewAnswer};
 use std::alloc::Global;
 use types::aspect::TextureAspect;
-use types::dimension::{TextureDimension, TextureViewDimension};
 use types::extent::Extent3d;
+use types::features::Features;
 use types::format::TextureFormat;
+use types::usages::TextureUsages;
 use types::view_descriptor::{ImageSubresourceRange, TextureViewDescriptor};
 
-pub fn parse_line(heap: Global, text: &str) -> Result<Line, LineError>
-    ensures { MatchResult result (λ line. Says text.now line) (λ error. Fault text.now error) }
+pub fn parse_line<A: Answer>(heap: Global, text: &str) -> Result<Line<A>, LineError>
+    ensures { MatchResult result (λ line. Says A.says text.now line) (λ error. Fault A.fault text.now error) }
 {
     if text.starts_with('#') {
         return Ok(Line::Comment);
@@ -28,14 +27,40 @@ pub fn parse_line(heap: Global, text: &str) -> Result<Line, LineError>
     marked_line(heap, mark, fields)
 }
 
-fn marked_line(heap: Global, mark: &str, fields: &[&str]) -> Result<Line, LineError>
-    ensures { MatchResult result (λ line. WordsSay mark.now (texts_of fields.now) line) (λ error. WordsFault mark.now (texts_of fields.now) error) }
+fn marked_line<A: Answer>(heap: Global, mark: &str, fields: &[&str]) -> Result<Line<A>, LineError>
+    ensures { MatchResult result (λ line. WordsSay A.says mark.now (texts_of fields.now) line) (λ error. WordsFault A.fault mark.now (texts_of fields.now) error) }
 {
     match mark {
-        "F" => Ok(Line::Features(features(fields)?)),
-        "T" => Ok(Line::Texture(texture_answer(heap, fields)?)),
-        "V" => Ok(Line::View(view_answer(fields)?)),
-        _ => Err(LineError::UnknownMark),
+        "F" => Ok(Line::Features(Features(features(fields)?))),
+        _ => Ok(Line::Answer(A::from_fields(heap, mark, fields)?)),
+    }
+}
+
+// A file of textures alone has lines with `T`.
+impl Answer for TextureAnswer {
+    ghost says = { TextureSays };
+
+    ghost fault = { TextureMarkFault };
+
+    fn from_fields(heap: Global, mark: &str, fields: &[&str]) -> Result<TextureAnswer, LineError> {
+        match mark {
+            "T" => texture_answer(heap, fields),
+            _ => Err(LineError::UnknownMark),
+        }
+    }
+}
+
+// A file with views has lines with `V` too.
+impl Answer for AnyAnswer {
+    ghost says = { AnySays };
+
+    ghost fault = { AnyMarkFault };
+
+    fn from_fields(heap: Global, mark: &str, fields: &[&str]) -> Result<AnyAnswer, LineError> {
+        match mark {
+            "V" => Ok(AnyAnswer::View(view_answer(fields)?)),
+            _ => Ok(AnyAnswer::Texture(TextureAnswer::from_fields(heap, mark, fields)?)),
+        }
     }
 }
 
@@ -89,23 +114,11 @@ fn texture_request(heap: Global, numbers: &[u32]) -> Result<TextureRequest, Line
         },
         mip_level_count: *levels,
         sample_count: *samples,
-        dimension: texture_dimension(*dimension)?,
-        format: texture_format(*format)?,
-        usage: *usage,
+        dimension: decode(*dimension)?,
+        format: decode(*format)?,
+        usage: TextureUsages(*usage),
         view_formats: texture_formats(heap, view_formats)?,
     })
-}
-
-fn texture_dimension(code: u32) -> Result<TextureDimension, LineError>
-    ensures { MatchResult result (λ dimension. dimension_code dimension ≡ code) (λ error. (error ≡ UnknownDimension code) × NoDimension code) }
-{
-    dimension_of(code).ok_or(LineError::UnknownDimension(code))
-}
-
-fn texture_format(code: u32) -> Result<TextureFormat, LineError>
-    ensures { MatchResult result (λ format. code_of format ≡ code) (λ error. (error ≡ UnknownFormat code) × NoFormat code) }
-{
-    format_of(code).ok_or(LineError::UnknownFormat(code))
 }
 
 fn texture_formats(heap: Global, codes: &[u32]) -> Result<Vec<TextureFormat>, LineError>
@@ -113,7 +126,7 @@ fn texture_formats(heap: Global, codes: &[u32]) -> Result<Vec<TextureFormat>, Li
 {
     let mut formats = Vec::new(heap);
     for code in codes {
-        formats.push(texture_format(*code)?)?;
+        formats.push(decode(*code)?)?;
     }
     Ok(formats)
 }
@@ -137,9 +150,9 @@ fn view_answer(words: &[&str]) -> Result<ViewAnswer, LineError>
     };
     Ok(ViewAnswer {
         request: TextureViewDescriptor {
-            format: optional_format(format)?,
-            dimension: optional_dimension(dimension)?,
-            usage: optional_number(usage)?,
+            format: optional_code(format)?,
+            dimension: optional_code(dimension)?,
+            usage: optional_number(usage)?.map(|bits| TextureUsages(bits)),
             range: ImageSubresourceRange {
                 aspect: texture_aspect(aspect)?,
                 base_mip_level: number(first_level)?,
@@ -152,28 +165,13 @@ fn view_answer(words: &[&str]) -> Result<ViewAnswer, LineError>
     })
 }
 
-fn optional_format(word: &str) -> Result<Option<TextureFormat>, LineError>
-    ensures { MatchResult result (λ format. Omittable (λ w f. Number w (code_of f)) word.now format) (λ error. WordFault (CodeFault NoFormat UnknownFormat) word.now error) }
+fn optional_code<C: Coded>(word: &str) -> Result<Option<C>, LineError>
+    ensures { MatchResult result (λ value. Omittable (λ w v. Number w (C.number_of v)) word.now value) (λ error. WordFault (CodeFault C.stands_for_nothing C.unknown_code) word.now error) }
 {
     match optional_number(word)? {
-        Some(code) => Ok(Some(texture_format(code)?)),
+        Some(code) => Ok(Some(decode(code)?)),
         None => Ok(None),
     }
-}
-
-fn optional_dimension(word: &str) -> Result<Option<TextureViewDimension>, LineError>
-    ensures { MatchResult result (λ dimension. Omittable (λ w d. Number w (view_dimension_code d)) word.now dimension) (λ error. WordFault (CodeFault NoViewDimension UnknownDimension) word.now error) }
-{
-    match optional_number(word)? {
-        Some(code) => Ok(Some(view_dimension(code)?)),
-        None => Ok(None),
-    }
-}
-
-fn view_dimension(code: u32) -> Result<TextureViewDimension, LineError>
-    ensures { MatchResult result (λ dimension. view_dimension_code dimension ≡ code) (λ error. (error ≡ UnknownDimension code) × NoViewDimension code) }
-{
-    view_dimension_of(code).ok_or(LineError::UnknownDimension(code))
 }
 
 fn optional_number(word: &str) -> Result<Option<u32>, LineError>
@@ -213,10 +211,7 @@ fn number(word: &str) -> Result<u32, LineError>
     if word.starts_with('+') {
         return Err(LineError::NotDecimal);
     }
-    match word.parse::<u32>() {
-        Ok(n) => Ok(n),
-        Err(_) => Err(LineError::NotDecimal),
-    }
+    word.parse::<u32>().map_err(|_| LineError::NotDecimal)
 }
 
 fn yes_or_no(word: &str) -> Result<bool, LineError>

@@ -15,7 +15,7 @@ abbrev pub sizes : Capabilities → TextureDescriptor → List (Check TextureDim
 sizes device d = size_checks d.dimension d.size d.sample_count device.limits
 
 abbrev pub after_blocks : Capabilities → TextureDescriptor → List (Check CreateTextureError)
-after_blocks device d = sliced_checks device.features d
+after_blocks device d = sliced_checks device.features.0 d
 
 abbrev pub after_dimension : Capabilities → TextureDescriptor → List (Check CreateTextureError)
 after_dimension device d = block_checks d ++ after_blocks device d
@@ -28,10 +28,10 @@ after_usage device d = map as_dimension (sizes device d) ++ after_size device d
 
 -- in all
 abbrev pub after_format : Capabilities → TextureDescriptor → List (Check CreateTextureError)
-after_format device d = view_format_checks device.downlevel_flags d.format d.view_formats.now
+after_format device d = view_format_checks device.downlevel_flags.0 d.format d.view_formats.now
 
 abbrev pub after_mips : Capabilities → TextureDescriptor → List (Check CreateTextureError)
-after_mips device d = format_checks device.features d ++ after_format device d
+after_mips device d = format_checks device.features.0 d ++ after_format device d
 
 abbrev pub after_shape : Capabilities → TextureDescriptor → List (Check CreateTextureError)
 after_shape device d = mip_checks d ++ after_mips device d

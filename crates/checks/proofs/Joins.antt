@@ -1,16 +1,11 @@
 -- Groups of checks, one after the other: where a group refuses, so does the whole; where it does not, the rest decides.
-use Rattle.std.proofs.Common.{◌≡◌, ℕ, Bool, true, false, cond, not, List, [], ◌∷◌, ◌++◌, map, IsErrAnd, IfOk, Ok, Err, Result, refl, ap, ◌∙◌}
+use Rattle.std.proofs.Common.{◌≡◌, true, false, cond, List, [], ◌∷◌, ◌++◌, map, IsErrAnd, IfOk, Ok, Err, Result, refl, ap, ◌∙◌}
 use Rattle.checks.proofs.Apart.{ok_not_err, err_not_ok}
 use Rattle.checks.specs.Check.{Check, outcome, answered, and_then, as_outcome}
-use Rattle.checks.specs.Checks.{as_dimension, feature_checks}
+use Rattle.checks.specs.Checks.{as_dimension}
 use Rattle.checks.specs.declared.error.CreateTextureError.{CreateTextureError}
-use Rattle.checks.specs.declared.error.CreateTextureError.TheVariants.{InvalidDimension, MissingFeatures}
+use Rattle.checks.specs.declared.error.CreateTextureError.TheVariants.{InvalidDimension}
 use Rattle.checks.specs.declared.error.TextureDimensionError.{TextureDimensionError}
-use Rattle.types.specs.Bits.{contains}
-use Rattle.types.specs.Formats.{required_features_of, guaranteed_features, described_features}
-use Rattle.types.specs.declared.features.MissingFeatures.{MissingFeatures as Missing}
-use Rattle.types.specs.declared.format.TextureFormat.{TextureFormat}
-use Rattle.types.specs.declared.format_features.TextureFormatFeatures.{TextureFormatFeatures}
 
 module _ {E : Type 0} where
   pub stops : (a rest : List (Check E)) (e : E) → Err e ≡ outcome a → Err e ≡ outcome (a ++ rest)
@@ -92,22 +87,3 @@ lifted_ok (c ∷ cs) u h =
 pub broke_size : (cs : List (Check TextureDimensionError)) (rest : List (Check CreateTextureError)) (r : Result Unit CreateTextureError) (e : TextureDimensionError)
     → IsErrAnd r (λ y. y ≡ InvalidDimension e) → Err e ≡ outcome cs → r ≡ outcome (map as_dimension cs ++ rest)
 broke_size cs rest r e q h = broke (map as_dimension cs) rest r (InvalidDimension e) q (lifted_err cs e h)
-
--- a format that was described has its feature, and is what its row says
-with_feature : (b : Bool) (row g : TextureFormatFeatures) (m : Missing) (e : CreateTextureError) → Ok row ≡ cond b (Ok g) (Err m)
-    → ◌≡◌ {A = Result Unit CreateTextureError} (Ok tt) (cond (not b) (Err e) (Ok tt))
-with_feature true row g m e h = refl
-with_feature false row g m e h = absurd (ok_not_err h)
-
-with_row : (b : Bool) (row g : TextureFormatFeatures) (m : Missing) → Ok row ≡ cond b (Ok g) (Err m) → row ≡ g
-with_row true row g m h = cc
-with_row false row g m h = absurd (ok_not_err h)
-
-module _ (features : ℕ) (f : TextureFormat) (row : TextureFormatFeatures) (h : Ok row ≡ described_features features f) where
-  pub described_feature : Ok tt ≡ outcome (feature_checks features f (required_features_of f))
-  described_feature =
-      with_feature (contains features (required_features_of f)) row (guaranteed_features f features) (record { 0 = required_features_of f })
-      (MissingFeatures f (record { 0 = required_features_of f })) h
-
-  pub described_row : row ≡ guaranteed_features f features
-  described_row = with_row (contains features (required_features_of f)) row (guaranteed_features f features) (record { 0 = required_features_of f }) h

@@ -39,10 +39,10 @@ below_at (suc n) p h k l =
     ]
 
 abbrev allowed : TextureFormat → ℕ
-allowed f = (row_of f).guaranteed.allowed_usages
+allowed f = (row_of f).guaranteed.allowed_usages.0
 
 abbrev flags : TextureFormat → ℕ
-flags f = (row_of f).guaranteed.flags
+flags f = (row_of f).guaranteed.flags.0
 
 -- the usages that a format of WebGPU allows are those that its abilities allow
 abbrev able : TextureFormat → ℕ → Bool

@@ -1,7 +1,7 @@
 -- Going through the view formats: what is left of the list, with the twin noted so far, gives the answer of the whole.
-use Rattle.std.proofs.Common.{◌≡◌, ℕ, ◌+◌, ◌<◌, ◌≤◌, Bool, true, false, cond, not, ◌&&◌, ◌||◌, ◌⊎◌, List, ◌∷◌, length, get_or, drop, Ok, Err, Result, sym, refl, ap, ◌∙◌, inl, inr}
-use Rattle.std.proofs.lemmas.List.{drop_all, drop_more}
-use Rattle.std.proofs.lemmas.Bool.{true≢false, false≢true, not-true, not-false}
+use Rattle.std.proofs.Common.{◌≡◌, ℕ, ◌+◌, ◌<◌, Bool, true, false, cond, not, ◌&&◌, ◌||◌, ◌⊎◌, List, ◌∷◌, length, get_or, drop, Ok, Err, Result, sym, refl, ap, ◌∙◌, inl, inr}
+use Rattle.std.proofs.lemmas.List.{drop_more}
+use Rattle.std.proofs.lemmas.Bool.{true≢false, false≢true, not-true}
 use Rattle.checks.specs.Check.{outcome, answered, and_then}
 use Rattle.checks.specs.Checks.{each_view_format, downlevel_checks, is_twin_listed, is_twin}
 use Rattle.checks.specs.declared.error.CreateTextureError.{CreateTextureError}
@@ -21,28 +21,9 @@ module _ (e : CreateTextureError) (o : Result Unit CreateTextureError) (noted l 
   foreign true w p q = absurd (true≢false q)
   foreign false true p q = absurd (true≢false p)
 
-  itself : (s w : Bool) → w ≡ false → s ≡ true → and_then (cond (not s && not w) (Err e) o) (Ok (noted || (w || l))) ≡ and_then o (Ok (noted || l))
-  itself true false p q = refl
-  itself s true p q = absurd (true≢false p)
-  itself false false p q = absurd (false≢true q)
-
-  twin : (s w n : Bool) → w ≡ true → and_then (cond (not s && not w) (Err e) o) (Ok (n || (w || l))) ≡ and_then o (Ok true)
-  twin true true true p = refl
-  twin true true false p = refl
-  twin false true true p = refl
-  twin false true false p = refl
-  twin s false n p = absurd (false≢true p)
-
 -- what `!=` tells
 pub apart : (same : Bool) → true ≡ not same → same ≡ false
 apart same h = not-true same (sym h)
-
-pub alike : (same : Bool) → false ≡ not same → same ≡ true
-alike same h = not-false same (sym h)
-
-or_false : (b : Bool) → (b || false) ≡ b
-or_false true = refl
-or_false false = refl
 
 module _ (f : TextureFormat) (views : List TextureFormat) (i : ℕ) (noted : Bool) where
   module _ (h : i < length views) where
@@ -54,20 +35,6 @@ module _ (f : TextureFormat) (views : List TextureFormat) (i : ℕ) (noted : Boo
     stop_foreign w s =
         foreign _ (outcome (each_view_format f (drop (i + 1) views))) noted (is_twin_listed f (drop (i + 1) views))
         (same_format (get_or views i R8Unorm) f) (is_twin f (get_or views i R8Unorm)) w s ∙ sym at_head
-
-    pub pass_itself : is_twin f (get_or views i R8Unorm) ≡ false → same_format (get_or views i R8Unorm) f ≡ true
-        → Left f (drop i views) noted ≡ Left f (drop (i + 1) views) noted
-    pass_itself w s =
-        at_head ∙ itself _ (outcome (each_view_format f (drop (i + 1) views))) noted (is_twin_listed f (drop (i + 1) views))
-        (same_format (get_or views i R8Unorm) f) (is_twin f (get_or views i R8Unorm)) w s
-
-    pub pass_twin : is_twin f (get_or views i R8Unorm) ≡ true → Left f (drop i views) noted ≡ Left f (drop (i + 1) views) true
-    pass_twin w =
-        at_head ∙ twin _ (outcome (each_view_format f (drop (i + 1) views))) noted (is_twin_listed f (drop (i + 1) views))
-        (same_format (get_or views i R8Unorm) f) (is_twin f (get_or views i R8Unorm)) noted w
-
-  pub nothing_left : length views ≤ i → Left f (drop i views) noted ≡ Ok noted
-  nothing_left h = ap (λ (l : List TextureFormat). Left f l noted) (drop_all i views h) ∙ ap Ok (or_false noted)
 
 -- the flag that a listed twin asks for
 module _ (flags : ℕ) (f : TextureFormat) (views : List TextureFormat) where
@@ -83,9 +50,9 @@ module _ (flags : ℕ) (f : TextureFormat) (views : List TextureFormat) where
   has true false e (inr q) = absurd (false≢true q)
 
   pub lacks_flag : is_twin_listed f views ≡ true → contains flags VIEW_FORMATS ≡ false
-      → Err (MissingDownlevelFlags (record { 0 = VIEW_FORMATS })) ≡ answered (downlevel_checks flags f views) (is_twin_listed f views)
+      → Err (MissingDownlevelFlags (record { 0 = record { 0 = VIEW_FORMATS } })) ≡ answered (downlevel_checks flags f views) (is_twin_listed f views)
   lacks_flag p q = lacks (is_twin_listed f views) (contains flags VIEW_FORMATS) (is_twin_listed f views) _ p q
 
   pub has_flag : (t : Bool) → t ≡ is_twin_listed f views → (is_twin_listed f views ≡ false) ⊎ (contains flags VIEW_FORMATS ≡ true)
       → Ok t ≡ answered (downlevel_checks flags f views) (is_twin_listed f views)
-  has_flag t v h = ap Ok v ∙ has (is_twin_listed f views) (contains flags VIEW_FORMATS) (MissingDownlevelFlags (record { 0 = VIEW_FORMATS })) h
+  has_flag t v h = ap Ok v ∙ has (is_twin_listed f views) (contains flags VIEW_FORMATS) (MissingDownlevelFlags (record { 0 = record { 0 = VIEW_FORMATS } })) h

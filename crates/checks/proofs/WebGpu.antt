@@ -36,10 +36,10 @@ module _ (v : Capabilities) (d : TextureDescriptor) where
   non_planar : WebGpuDevice v → Enabled v d.format → is_planar d.format ≡ false
   non_planar w e =
       false_from (is_planar d.format)
-      (λ p. clash (contains v.features NV12_FORMAT)
-      (subst (λ (n : ℕ). contains v.features n ≡ true) (planar_needs d.format p) e) w.no_nv12)
+      (λ p. clash (contains v.features.0 NV12_FORMAT)
+      (subst (λ (n : ℕ). contains v.features.0 n ≡ true) (planar_needs d.format p) e) w.no_nv12)
 
-  own_usages : is_planar d.format ≡ false → allowed_usages_of v.features d.format ≡ (row_of d.format).guaranteed.allowed_usages
+  own_usages : is_planar d.format ≡ false → allowed_usages_of v.features.0 d.format ≡ (row_of d.format).guaranteed.allowed_usages.0
   own_usages p = cond-false (is_planar d.format) _ _ p
 
   own_multiple : is_planar d.format ≡ false → level_multiple d.format (levels d) ≡ block_dimensions d.format
@@ -69,8 +69,8 @@ module _ (v : Capabilities) (d : TextureDescriptor) where
 
   abbrev Slices : TextureDimension → Type 0
   Slices dim =
-      (((is_3d dim && is_compressed d.format) && (is_bcn d.format && not (contains v.features BC_SLICED_3D))) ≡ false)
-      × (((is_3d dim && is_compressed d.format) && (is_astc d.format && not (contains v.features ASTC_SLICED_3D))) ≡ false)
+      (((is_3d dim && is_compressed d.format) && (is_bcn d.format && not (contains v.features.0 BC_SLICED_3D))) ≡ false)
+      × (((is_3d dim && is_compressed d.format) && (is_astc d.format && not (contains v.features.0 ASTC_SLICED_3D))) ≡ false)
       × (((is_3d dim && is_compressed d.format) && (not (is_bcn d.format) && not (is_astc d.format))) ≡ false)
 
   rules_from : (dim : TextureDimension) → SizesPass dim → (not (is_2d dim) && is_depth_stencil d.format) ≡ false
@@ -98,8 +98,8 @@ module _ (v : Capabilities) (d : TextureDescriptor) where
         one_sample = one_of (samples d) (not (eqb (ones (samples d)) 1)) s.1.1.1.1.1.1.0;
         no_depth_stencil = depth_stencil;
         compressed =
-            slices (is_compressed d.format) (is_bcn d.format) (is_astc d.format) (contains v.features BC_SLICED_3D)
-            (contains v.features ASTC_SLICED_3D) sliced.0 sliced.1 sliced.2;
+            slices (is_compressed d.format) (is_bcn d.format) (is_astc d.format) (contains v.features.0 BC_SLICED_3D)
+            (contains v.features.0 ASTC_SLICED_3D) sliced.0 sliced.1 sliced.2;
       }
 
   -- the largest side is within the limits
@@ -138,7 +138,7 @@ module _ (v : Capabilities) (d : TextureDescriptor) where
 
   all_enabled : Enabled v d.format → (vs : List TextureFormat) → AllByRecursion (Compatible d.format) vs → AllByRecursion (Enabled v) vs
   all_enabled e [] h = tt
-  all_enabled e (view ∷ vs) h = (subst (λ (n : ℕ). contains v.features n ≡ true) (needs_alike view h.0) e, all_enabled e vs h.1)
+  all_enabled e (view ∷ vs) h = (subst (λ (n : ℕ). contains v.features.0 n ≡ true) (needs_alike view h.0) e, all_enabled e vs h.1)
 
   empty : (vs : List TextureFormat) → is_empty vs ≡ true → vs ≡ []
   empty [] h = refl
@@ -154,13 +154,13 @@ module _ (v : Capabilities) (d : TextureDescriptor) where
     past_mips : AllByRecursion Passes (after_mips v d)
     past_mips = back (mip_checks d) (after_mips v d) (back (shape_checks v d) (after_shape v d) h)
 
-    formats : AllByRecursion Passes (format_checks v.features d)
-    formats = front (format_checks v.features d) (after_format v d) past_mips
+    formats : AllByRecursion Passes (format_checks v.features.0 d)
+    formats = front (format_checks v.features.0 d) (after_format v d) past_mips
 
     view_formats : AllByRecursion Passes (each_view_format d.format views)
     view_formats =
-        front (each_view_format d.format views) (downlevel_checks v.downlevel_flags d.format views)
-        (back (format_checks v.features d) (after_format v d) past_mips)
+        front (each_view_format d.format views) (downlevel_checks v.downlevel_flags.0 d.format views)
+        (back (format_checks v.features.0 d) (after_format v d) past_mips)
 
     past_usage : AllByRecursion Passes (after_usage v d)
     past_usage = back (usages d) (after_usage v d) shape
@@ -174,7 +174,7 @@ module _ (v : Capabilities) (d : TextureDescriptor) where
     dims : AllByRecursion Passes (dimension_checks d)
     dims = front (dimension_checks d) (after_dimension v d) past_size
 
-    cut : AllByRecursion Passes (sliced_checks v.features d)
+    cut : AllByRecursion Passes (sliced_checks v.features.0 d)
     cut = back (block_checks d) (after_blocks v d) (back (dimension_checks d) (after_dimension v d) past_size)
 
     lasting : AllByRecursion Passes (level_checks d)
@@ -184,26 +184,26 @@ module _ (v : Capabilities) (d : TextureDescriptor) where
     passing = back (level_checks d) (transient_checks d) mips
 
     enabled : Enabled v d.format
-    enabled = not-false (contains v.features (required_features_of d.format)) formats.0
+    enabled = not-false (contains v.features.0 (required_features_of d.format)) formats.0
 
     plain : is_planar d.format ≡ false
     plain = non_planar w enabled
 
-    smooth : AllByRecursion Passes (multisample_checks v.features (row_of d.format).guaranteed.flags d)
-    smooth = front (multisample_checks v.features (row_of d.format).guaranteed.flags d) (format_usage_checks v.features d) formats.1
+    smooth : AllByRecursion Passes (multisample_checks v.features.0 (row_of d.format).guaranteed.flags.0 d)
+    smooth = front (multisample_checks v.features.0 (row_of d.format).guaranteed.flags.0 d) (format_usage_checks v.features.0 d) formats.1
 
-    usage_fits : difference d.usage (row_of d.format).guaranteed.allowed_usages ≡ 0
+    usage_fits : difference d.usage.0 (row_of d.format).guaranteed.allowed_usages.0 ≡ 0
     usage_fits =
-        let last = back (multisample_checks v.features (row_of d.format).guaranteed.flags d) (format_usage_checks v.features d) formats.1 in
-        let z : difference d.usage (allowed_usages_of v.features d.format) ≡ 0 = eqb-true _ _ (not-false _ last.0) in
-        subst (λ (a : ℕ). difference d.usage a ≡ 0) (own_usages plain) z
+        let last = back (multisample_checks v.features.0 (row_of d.format).guaranteed.flags.0 d) (format_usage_checks v.features.0 d) formats.1 in
+        let z : difference d.usage.0 (allowed_usages_of v.features.0 d.format) ≡ 0 = eqb-true _ _ (not-false _ last.0) in
+        subst (λ (a : ℕ). difference d.usage.0 a ≡ 0) (own_usages plain) z
 
-    six : d.usage < 64
-    six = allowed_six_bits d.format d.usage usage_fits
+    six : d.usage.0 < 64
+    six = allowed_six_bits d.format d.usage.0 usage_fits
 
-    able_both : (imp (contains d.usage RENDER_ATTACHMENT) (contains (row_of d.format).guaranteed.allowed_usages RENDER_ATTACHMENT) ≡ true)
-        × (imp (contains d.usage STORAGE_BINDING) (intersects (row_of d.format).guaranteed.flags 112) ≡ true)
-    able_both = and_parts _ _ (able_if_allowed d.format d.usage six plain usage_fits)
+    able_both : (imp (contains d.usage.0 RENDER_ATTACHMENT) (contains (row_of d.format).guaranteed.allowed_usages.0 RENDER_ATTACHMENT) ≡ true)
+        × (imp (contains d.usage.0 STORAGE_BINDING) (intersects (row_of d.format).guaranteed.flags.0 112) ≡ true)
+    able_both = and_parts _ _ (able_if_allowed d.format d.usage.0 six plain usage_fits)
 
     rules : DimensionRules v d d.dimension
     rules = rules_from d.dimension sides dims.0 dims.1.1.0 (cut.0, cut.1.0, cut.1.1.0)
@@ -220,7 +220,7 @@ module _ (v : Capabilities) (d : TextureDescriptor) where
     four : 1 < samples d → (samples d ≡ 4) × Multisamplable v d.format
     four l =
         supported_four d.format (samples d)
-        (must (is_multisampled d) (sample_count_supported (row_of d.format).guaranteed.flags (samples d)) smooth.1.1.1.1.1.0 (lt-ltb 1 (samples d) l)) l
+        (must (is_multisampled d) (sample_count_supported (row_of d.format).guaranteed.flags.0 (samples d)) smooth.1.1.1.1.1.0 (lt-ltb 1 (samples d) l)) l
 
     one_or_four : (samples d ≡ 1) ⊎ (samples d ≡ 4)
     one_or_four =
@@ -234,19 +234,19 @@ module _ (v : Capabilities) (d : TextureDescriptor) where
           one_level = eqb-true _ _ (must (is_multisampled d) (eqb (levels d) 1) smooth.0 m);
           one_layer =
               eqb-true _ _
-              (not-false _ (and_but (not (eqb (depth d) 1)) (contains v.features MULTISAMPLE_ARRAY)
-              (mustnt (is_multisampled d) (not (eqb (depth d) 1) && not (contains v.features MULTISAMPLE_ARRAY)) smooth.1.0 m)
+              (not-false _ (and_but (not (eqb (depth d) 1)) (contains v.features.0 MULTISAMPLE_ARRAY)
+              (mustnt (is_multisampled d) (not (eqb (depth d) 1) && not (contains v.features.0 MULTISAMPLE_ARRAY)) smooth.1.0 m)
               w.no_multisample_array));
-          no_storage = mustnt (is_multisampled d) (contains d.usage STORAGE_BINDING) smooth.1.1.0 m;
-          attachment = must (is_multisampled d) (contains d.usage RENDER_ATTACHMENT) smooth.1.1.1.0 m;
+          no_storage = mustnt (is_multisampled d) (contains d.usage.0 STORAGE_BINDING) smooth.1.1.0 m;
+          attachment = must (is_multisampled d) (contains d.usage.0 RENDER_ATTACHMENT) smooth.1.1.1.0 m;
           format = (four l).1;
         }
 
     transient : Has d TRANSIENT_ATTACHMENT → TransientRules d
     transient t =
         record {
-          usage = eqb-true _ _ (must (is_transient d) (eqb d.usage 48) passing.0 t);
-          two_dimensional = not-false _ (mustnt (contains d.usage TRANSIENT_ATTACHMENT) (not (is_2d d.dimension)) (swapped (not (is_2d d.dimension)) (contains d.usage TRANSIENT_ATTACHMENT) dims.1.0) t);
+          usage = eqb-true _ _ (must (is_transient d) (eqb d.usage.0 48) passing.0 t);
+          two_dimensional = not-false _ (mustnt (contains d.usage.0 TRANSIENT_ATTACHMENT) (not (is_2d d.dimension)) (swapped (not (is_2d d.dimension)) (contains d.usage.0 TRANSIENT_ATTACHMENT) dims.1.0) t);
           one_level = eqb-true _ _ (must (is_transient d) (eqb (levels d) 1) passing.1.0 t);
           one_layer = eqb-true _ _ (must (is_transient d) (eqb (depth d) 1) passing.1.1.0 t);
           no_view_formats = empty views (must (is_transient d) (is_empty views) passing.1.1.1.0 t);
@@ -257,8 +257,8 @@ module _ (v : Capabilities) (d : TextureDescriptor) where
         record {
           format_enabled = enabled;
           view_formats_enabled = all_enabled enabled views (all_listed views view_formats);
-          usage_not_empty = positive _ (or_parts (eqb d.usage 0) (not (eqb (difference d.usage ALL_USAGES) 0)) shape.0).0;
-          usage_known = in_six_bits d.usage six;
+          usage_not_empty = positive _ (or_parts (eqb d.usage.0 0) (not (eqb (difference d.usage.0 ALL_USAGES) 0)) shape.0).0;
+          usage_known = in_six_bits d.usage.0 six;
           width_positive = positive _ sides.0;
           height_positive = positive _ sides.1.1.0;
           depth_positive = positive _ sides.1.1.1.1.0;
@@ -271,7 +271,7 @@ module _ (v : Capabilities) (d : TextureDescriptor) where
           levels_within = levels_from w d.dimension rules (positive _ sides.0) (ltb-false _ _ level_parts.1);
           rendering = λ t. (
             modus _ _ able_both.0 t,
-            mustnt (contains d.usage RENDER_ATTACHMENT) (is_1d d.dimension) (swapped (is_1d d.dimension) (contains d.usage RENDER_ATTACHMENT) dims.1.1.1.0) t,
+            mustnt (contains d.usage.0 RENDER_ATTACHMENT) (is_1d d.dimension) (swapped (is_1d d.dimension) (contains d.usage.0 RENDER_ATTACHMENT) dims.1.1.1.0) t,
           );
           storage = λ t. modus _ _ able_both.1 t;
           transient_rules = transient;
@@ -344,8 +344,8 @@ module _ (v : Capabilities) (d : TextureDescriptor) where
 
     usage_passes : AllByRecursion Passes (usages d)
     usage_passes = (
-      or_from (eqb d.usage 0) (not (eqb (difference d.usage ALL_USAGES) 0)) (not_zero _ a.usage_not_empty)
-          (not_from_true _ (eq-eqb _ _ (known d.usage (six_bits d.usage a.usage_known)))),
+      or_from (eqb d.usage.0 0) (not (eqb (difference d.usage.0 ALL_USAGES) 0)) (not_zero _ a.usage_not_empty)
+          (not_from_true _ (eq-eqb _ _ (known d.usage.0 (six_bits d.usage.0 a.usage_known)))),
       tt,
     )
 
@@ -363,12 +363,12 @@ module _ (v : Capabilities) (d : TextureDescriptor) where
     dimension_passes = (
       depth_passes d.dimension a.dimension_rules,
       (
-        mustnt_from (not (is_2d d.dimension)) (contains d.usage TRANSIENT_ATTACHMENT)
+        mustnt_from (not (is_2d d.dimension)) (contains d.usage.0 TRANSIENT_ATTACHMENT)
             (λ p. false_from _ (λ t. clash (is_2d d.dimension) (a.transient_rules t).two_dimensional (not-true _ p))),
         (
           packed_passes d.dimension a.dimension_rules,
           (
-            mustnt_from (is_1d d.dimension) (contains d.usage RENDER_ATTACHMENT)
+            mustnt_from (is_1d d.dimension) (contains d.usage.0 RENDER_ATTACHMENT)
                 (λ p. false_from _ (λ t. clash (is_1d d.dimension) p (a.rendering t).1)),
             tt,
           ),
@@ -399,11 +399,11 @@ module _ (v : Capabilities) (d : TextureDescriptor) where
     one_family : is_bcn d.format ≡ true → is_astc d.format ≡ true → ⊥
     one_family p q = omega (arith, eqb-true (required_features_of d.format) 1 p, eqb-true (required_features_of d.format) 8 q)
 
-    bc_passes : Sliceable v d.format → (is_bcn d.format && not (contains v.features BC_SLICED_3D)) ≡ false
+    bc_passes : Sliceable v d.format → (is_bcn d.format && not (contains v.features.0 BC_SLICED_3D)) ≡ false
     bc_passes (inl p) = must_from _ _ (λ _. p.1)
     bc_passes (inr p) = must_from _ _ (λ q. absurd (one_family q p.0))
 
-    astc_passes : Sliceable v d.format → (is_astc d.format && not (contains v.features ASTC_SLICED_3D)) ≡ false
+    astc_passes : Sliceable v d.format → (is_astc d.format && not (contains v.features.0 ASTC_SLICED_3D)) ≡ false
     astc_passes (inl p) = must_from _ _ (λ q. absurd (one_family p.0 q))
     astc_passes (inr p) = must_from _ _ (λ _. p.1)
 
@@ -411,7 +411,7 @@ module _ (v : Capabilities) (d : TextureDescriptor) where
     family_passes (inl p) = and_left _ _ (not_from_true _ p.0)
     family_passes (inr p) = must_from _ _ (λ _. p.0)
 
-    sliced_passes : AllByRecursion Passes (sliced_checks v.features d)
+    sliced_passes : AllByRecursion Passes (sliced_checks v.features.0 d)
     sliced_passes = (
       mustnt_from (is_sliced d) _ (λ p. bc_passes (sliceable p)),
       (
@@ -449,7 +449,7 @@ module _ (v : Capabilities) (d : TextureDescriptor) where
 
       transient_passes : AllByRecursion Passes (transient_checks d)
       transient_passes = (
-        must_from (is_transient d) (eqb d.usage 48) (λ t. eq-eqb _ _ (a.transient_rules t).usage),
+        must_from (is_transient d) (eqb d.usage.0 48) (λ t. eq-eqb _ _ (a.transient_rules t).usage),
         (
           must_from (is_transient d) (eqb (levels d) 1) (λ t. eq-eqb _ _ (a.transient_rules t).one_level),
           (
@@ -465,27 +465,27 @@ module _ (v : Capabilities) (d : TextureDescriptor) where
       multisample_rules_at : is_multisampled d ≡ true → MultisampleRules v d
       multisample_rules_at m = a.multisample_rules (ltb-true 1 (samples d) m)
 
-      four_supported : is_multisampled d ≡ true → sample_count_supported (row_of d.format).guaranteed.flags (samples d) ≡ true
+      four_supported : is_multisampled d ≡ true → sample_count_supported (row_of d.format).guaranteed.flags.0 (samples d) ≡ true
       four_supported m =
           elim a.sample_count [
             | inl one ↦ absurd (omega (arith, one, ltb-true 1 (samples d) m))
-            | inr four ↦ subst (λ (s : ℕ). sample_count_supported (row_of d.format).guaranteed.flags s ≡ true) (sym four) (multisample_rules_at m).format
+            | inr four ↦ subst (λ (s : ℕ). sample_count_supported (row_of d.format).guaranteed.flags.0 s ≡ true) (sym four) (multisample_rules_at m).format
           ]
 
-      multisample_passes : AllByRecursion Passes (multisample_checks v.features (row_of d.format).guaranteed.flags d)
+      multisample_passes : AllByRecursion Passes (multisample_checks v.features.0 (row_of d.format).guaranteed.flags.0 d)
       multisample_passes = (
         must_from (is_multisampled d) (eqb (levels d) 1) (λ m. eq-eqb _ _ (multisample_rules_at m).one_level),
         (
-          mustnt_from (is_multisampled d) (not (eqb (depth d) 1) && not (contains v.features MULTISAMPLE_ARRAY))
+          mustnt_from (is_multisampled d) (not (eqb (depth d) 1) && not (contains v.features.0 MULTISAMPLE_ARRAY))
               (λ m. and_left _ _ (not_from_true _ (eq-eqb _ _ (multisample_rules_at m).one_layer))),
           (
-            mustnt_from (is_multisampled d) (contains d.usage STORAGE_BINDING) (λ m. (multisample_rules_at m).no_storage),
+            mustnt_from (is_multisampled d) (contains d.usage.0 STORAGE_BINDING) (λ m. (multisample_rules_at m).no_storage),
             (
-              must_from (is_multisampled d) (contains d.usage RENDER_ATTACHMENT) (λ m. (multisample_rules_at m).attachment),
+              must_from (is_multisampled d) (contains d.usage.0 RENDER_ATTACHMENT) (λ m. (multisample_rules_at m).attachment),
               (
-                must_from (is_multisampled d) (intersects (row_of d.format).guaranteed.flags MULTISAMPLED) (λ m. four_multisampled d.format (multisample_rules_at m).format),
+                must_from (is_multisampled d) (intersects (row_of d.format).guaranteed.flags.0 MULTISAMPLED) (λ m. four_multisampled d.format (multisample_rules_at m).format),
                 (
-                  must_from (is_multisampled d) (sample_count_supported (row_of d.format).guaranteed.flags (samples d)) four_supported,
+                  must_from (is_multisampled d) (sample_count_supported (row_of d.format).guaranteed.flags.0 (samples d)) four_supported,
                   tt,
                 ),
               ),
@@ -494,19 +494,19 @@ module _ (v : Capabilities) (d : TextureDescriptor) where
         ),
       )
 
-      usage_allowed : difference d.usage (allowed_usages_of v.features d.format) ≡ 0
+      usage_allowed : difference d.usage.0 (allowed_usages_of v.features.0 d.format) ≡ 0
       usage_allowed =
-          subst (λ (n : ℕ). difference d.usage n ≡ 0) (sym (own_usages unplanar))
-          (allowed_if_able d.format d.usage (six_bits d.usage a.usage_known) unplanar
-          (and_from (imp (contains d.usage RENDER_ATTACHMENT) (contains (row_of d.format).guaranteed.allowed_usages RENDER_ATTACHMENT))
-          (imp (contains d.usage STORAGE_BINDING) (intersects (row_of d.format).guaranteed.flags 112))
+          subst (λ (n : ℕ). difference d.usage.0 n ≡ 0) (sym (own_usages unplanar))
+          (allowed_if_able d.format d.usage.0 (six_bits d.usage.0 a.usage_known) unplanar
+          (and_from (imp (contains d.usage.0 RENDER_ATTACHMENT) (contains (row_of d.format).guaranteed.allowed_usages.0 RENDER_ATTACHMENT))
+          (imp (contains d.usage.0 STORAGE_BINDING) (intersects (row_of d.format).guaranteed.flags.0 112))
           (imp_from _ _ (λ t. (a.rendering t).0)) (imp_from _ _ a.storage))
           (λ t. (a.transient_rules t).usage))
 
-      format_passes : AllByRecursion Passes (format_checks v.features d)
+      format_passes : AllByRecursion Passes (format_checks v.features.0 d)
       format_passes = (
         not_from_true _ a.format_enabled,
-        both (multisample_checks v.features (row_of d.format).guaranteed.flags d) (format_usage_checks v.features d) multisample_passes
+        both (multisample_checks v.features.0 (row_of d.format).guaranteed.flags.0 d) (format_usage_checks v.features.0 d) multisample_passes
             (not_from_true _ (eq-eqb _ _ usage_allowed), tt),
       )
 
@@ -523,8 +523,8 @@ module _ (v : Capabilities) (d : TextureDescriptor) where
 
       view_formats_pass : AllByRecursion Passes (after_format v d)
       view_formats_pass =
-          both (each_view_format d.format views) (downlevel_checks v.downlevel_flags d.format views) (views_pass views a.view_formats_compatible)
-          (must_from (is_twin_listed d.format views) (contains v.downlevel_flags VIEW_FORMATS) (λ _. w.view_formats), tt)
+          both (each_view_format d.format views) (downlevel_checks v.downlevel_flags.0 d.format views) (views_pass views a.view_formats_compatible)
+          (must_from (is_twin_listed d.format views) (contains v.downlevel_flags.0 VIEW_FORMATS) (λ _. w.view_formats), tt)
 
       pub checks_pass : AllByRecursion Passes (create_checks v d)
       checks_pass =
@@ -533,4 +533,4 @@ module _ (v : Capabilities) (d : TextureDescriptor) where
           (both (map as_dimension (sizes v d)) (after_size v d) (sides_pass d.dimension a.dimension_rules)
           (both (dimension_checks d) (after_dimension v d) dimension_passes (both (block_checks d) (after_blocks v d) blocks_pass sliced_passes))))
           (both (mip_checks d) (after_mips v d) (both (level_checks d) (transient_checks d) levels_pass transient_passes)
-          (both (format_checks v.features d) (after_format v d) format_passes view_formats_pass))
+          (both (format_checks v.features.0 d) (after_format v d) format_passes view_formats_pass))

@@ -15,4 +15,4 @@ pub record Kept (device : Capabilities) (d : TextureDescriptor) (t : Texture) : 
   pub format : t.format ≡ d.format
   pub usage : t.usage ≡ d.usage
   pub twin_listed : t.twin_listed ≡ is_twin_listed d.format d.view_formats.now
-  pub hal_usage : t.hal_usage ≡ texture_uses d.usage d.format d.dimension (guaranteed_features d.format device.features)
+  pub hal_usage : t.hal_usage.0 ≡ texture_uses d.usage.0 d.format d.dimension (guaranteed_features d.format device.features.0)

@@ -1,5 +1,5 @@
 -- Checks in an order: the first that fails gives the refusal.
-use Rattle.std.specs.Prelude.{Bool, cond, List, [], ◌∷◌, Ok, Err, Result}
+use Rattle.std.specs.Prelude.{Bool, if◌then◌else◌, List, [], ◌∷◌, Ok, Err, Result}
 
 -- a test that a request fails, and what it is then refused with
 pub record Check (E : Type 0) : Type 0 where
@@ -12,7 +12,7 @@ refuse test case = record { fails = test; refusal = case }
 -- the first refusal, or none
 abbrev pub outcome : {E : Type 0} → List (Check E) → Result Unit E
 outcome [] = Ok tt
-outcome (c ∷ cs) = cond c.fails (Err c.refusal) (outcome cs)
+outcome (c ∷ cs) = if c.fails then Err c.refusal else outcome cs
 
 -- this, or the second where the first does not refuse
 abbrev pub and_then : {E X : Type 0} → Result Unit E → Result X E → Result X E

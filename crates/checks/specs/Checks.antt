@@ -1,6 +1,6 @@
 -- The checks of a texture request, in their order. Each line is a test that a request fails and the refusal for it; the headings
 -- have the refusals' numbers.
-use Rattle.std.specs.Prelude.{ℕ, ◌-◌, ◌*◌, ◌%◌, ◌^◌, Bool, true, false, cond, not, ◌&&◌, ◌||◌, List, [], ◌∷◌, ◌++◌, map, Some, None, Option, ◌==◌, bit_and, count_ones, nat_lt}
+use Rattle.std.specs.Prelude.{ℕ, ◌-◌, ◌*◌, ◌%◌, ◌^◌, Bool, true, false, if◌then◌else◌, not, ◌&&◌, ◌||◌, List, [], ◌∷◌, ◌++◌, map, Some, None, Option, ◌==◌, bit_and, count_ones, nat_lt}
 use Rattle.checks.specs.Check.{Check, refuse}
 use Rattle.checks.specs.declared.error.CreateTextureError.{CreateTextureError}
 use Rattle.checks.specs.declared.error.CreateTextureError.TheVariants.{InvalidUsage, InvalidDimension, InvalidDepthDimension, InvalidDimensionUsages, InvalidCompressedDimension, MissingFeatures, InvalidMipLevelCount, InvalidTransientTextureUsage, InvalidTransientTextureMipLevelCount, InvalidTransientTextureLayerCount, InvalidTransientTextureViewFormats, InvalidMultisampledStorageBinding, MultisampledNotRenderAttachment, InvalidMultisampledFormat, InvalidSampleCount, InvalidFormatUsages, InvalidViewFormat, MissingDownlevelFlags}
@@ -24,11 +24,12 @@ use Rattle.types.specs.declared.extent.Extent3d.{Extent3d}
 use Rattle.types.specs.declared.format.TextureFormat.{TextureFormat}
 use Rattle.types.specs.declared.format.TextureFormat.TheVariants.{R8Unorm, Rg8Unorm}
 use Rattle.types.specs.declared.limits.Limits.{Limits}
+use Rattle.types.specs.declared.usages.TextureUsages.{TextureUsages}
 
 -- ---- 3: the usage: none at all, or one that is not known
 
-abbrev pub usage_checks : ℕ → List (Check CreateTextureError)
-usage_checks usage = refuse (usage == 0 || not (difference usage ALL_USAGES == 0)) (InvalidUsage usage) ∷ []
+abbrev pub usage_checks : TextureUsages → List (Check CreateTextureError)
+usage_checks usage = refuse (usage.0 == 0 || not (difference usage.0 ALL_USAGES == 0)) (InvalidUsage usage) ∷ []
 
 -- ---- 4, 5, 6: the size and the sample count, against the limits of the dimension
 
@@ -71,9 +72,9 @@ as_dimension c = refuse c.fails (InvalidDimension c.refusal)
 abbrev pub dimension_checks : TextureDescriptor → List (Check CreateTextureError)
 dimension_checks d =
     refuse (not (is_2d d.dimension) && is_depth_stencil d.format) (InvalidDepthDimension d.dimension d.format)
-    ∷ refuse (not (is_2d d.dimension) && contains d.usage TRANSIENT_ATTACHMENT) (InvalidDimensionUsages TRANSIENT_ATTACHMENT d.dimension)
+    ∷ refuse (not (is_2d d.dimension) && contains d.usage.0 TRANSIENT_ATTACHMENT) (InvalidDimensionUsages (record { 0 = TRANSIENT_ATTACHMENT }) d.dimension)
     ∷ refuse (is_1d d.dimension && is_compressed d.format) (InvalidCompressedDimension d.dimension d.format)
-    ∷ refuse (is_1d d.dimension && contains d.usage RENDER_ATTACHMENT) (InvalidDimensionUsages RENDER_ATTACHMENT d.dimension)
+    ∷ refuse (is_1d d.dimension && contains d.usage.0 RENDER_ATTACHMENT) (InvalidDimensionUsages (record { 0 = RENDER_ATTACHMENT }) d.dimension)
     ∷ []
 
 -- ---- 10, 11: whole blocks of compressed formats
@@ -92,7 +93,7 @@ block_checks d =
 -- ---- 12: a feature that is not on, refused for a format
 abbrev pub feature_checks : ℕ → TextureFormat → ℕ → List (Check CreateTextureError)
 feature_checks features format needed =
-    refuse (not (contains features needed)) (MissingFeatures format (record { 0 = needed })) ∷ []
+    refuse (not (contains features needed)) (MissingFeatures format (record { 0 = record { 0 = needed } })) ∷ []
 
 -- ---- 12, 12, 9: compressed formats in 3D: the device has to slice them
 
@@ -101,8 +102,8 @@ is_sliced d = is_3d d.dimension && is_compressed d.format
 
 abbrev pub sliced_checks : ℕ → TextureDescriptor → List (Check CreateTextureError)
 sliced_checks features d =
-    refuse (is_sliced d && (is_bcn d.format && not (contains features BC_SLICED_3D))) (MissingFeatures d.format (record { 0 = BC_SLICED_3D }))
-    ∷ refuse (is_sliced d && (is_astc d.format && not (contains features ASTC_SLICED_3D))) (MissingFeatures d.format (record { 0 = ASTC_SLICED_3D }))
+    refuse (is_sliced d && (is_bcn d.format && not (contains features BC_SLICED_3D))) (MissingFeatures d.format (record { 0 = record { 0 = BC_SLICED_3D } }))
+    ∷ refuse (is_sliced d && (is_astc d.format && not (contains features ASTC_SLICED_3D))) (MissingFeatures d.format (record { 0 = record { 0 = ASTC_SLICED_3D } }))
     ∷ refuse (is_sliced d && (not (is_bcn d.format) && not (is_astc d.format))) (InvalidCompressedDimension d.dimension d.format)
     ∷ []
 
@@ -111,7 +112,7 @@ sliced_checks features d =
 -- each further level of a planar format doubles the multiple
 abbrev pub level_multiple : TextureFormat → ℕ → ℕ × ℕ
 level_multiple f levels =
-    cond (is_planar f) ((size_multiple f).0 * 2 ^ (levels - 1), (size_multiple f).1 * 2 ^ (levels - 1)) (size_multiple f)
+    if is_planar f then ((size_multiple f).0 * 2 ^ (levels - 1), (size_multiple f).1 * 2 ^ (levels - 1)) else size_multiple f
 
 abbrev pub level_checks : TextureDescriptor → List (Check CreateTextureError)
 level_checks d =
@@ -130,11 +131,11 @@ is_empty [] = true
 is_empty (_ ∷ _) = false
 
 abbrev pub is_transient : TextureDescriptor → Bool
-is_transient d = contains d.usage TRANSIENT_ATTACHMENT
+is_transient d = contains d.usage.0 TRANSIENT_ATTACHMENT
 
 abbrev pub transient_checks : TextureDescriptor → List (Check CreateTextureError)
 transient_checks d =
-    refuse (is_transient d && not (d.usage == 48)) (InvalidTransientTextureUsage d.usage)
+    refuse (is_transient d && not (d.usage.0 == 48)) (InvalidTransientTextureUsage d.usage)
     ∷ refuse (is_transient d && not (d.mip_level_count == 1)) (InvalidTransientTextureMipLevelCount d.mip_level_count)
     ∷ refuse (is_transient d && not (d.size.depth_or_array_layers == 1)) (InvalidTransientTextureLayerCount d.size.depth_or_array_layers)
     ∷ refuse (is_transient d && not (is_empty d.view_formats.now)) InvalidTransientTextureViewFormats
@@ -150,8 +151,8 @@ multisample_checks features flags d =
     refuse (is_multisampled d && not (d.mip_level_count == 1)) (InvalidMipLevelCount d.mip_level_count 1)
     ∷ refuse (is_multisampled d && (not (d.size.depth_or_array_layers == 1) && not (contains features MULTISAMPLE_ARRAY)))
     (InvalidDimension (MultisampledDepthOrArrayLayer d.size.depth_or_array_layers))
-    ∷ refuse (is_multisampled d && contains d.usage STORAGE_BINDING) InvalidMultisampledStorageBinding
-    ∷ refuse (is_multisampled d && not (contains d.usage RENDER_ATTACHMENT)) MultisampledNotRenderAttachment
+    ∷ refuse (is_multisampled d && contains d.usage.0 STORAGE_BINDING) InvalidMultisampledStorageBinding
+    ∷ refuse (is_multisampled d && not (contains d.usage.0 RENDER_ATTACHMENT)) MultisampledNotRenderAttachment
     ∷ refuse (is_multisampled d && not (intersects flags MULTISAMPLED)) (InvalidMultisampledFormat d.format)
     ∷ refuse (is_multisampled d && not (sample_count_supported flags d.sample_count))
     (InvalidSampleCount d.sample_count d.format (supported_sample_counts flags))
@@ -162,15 +163,14 @@ multisample_checks features flags d =
 -- what a planar format allows is what both of its planes allow
 abbrev pub allowed_usages_of : ℕ → TextureFormat → ℕ
 allowed_usages_of features f =
-    cond (is_planar f)
-    (bit_and (guaranteed_features R8Unorm features).allowed_usages (guaranteed_features Rg8Unorm features).allowed_usages)
-    (guaranteed_features f features).allowed_usages
+    if is_planar f then bit_and (guaranteed_features R8Unorm features).allowed_usages.0 (guaranteed_features Rg8Unorm features).allowed_usages.0
+    else (guaranteed_features f features).allowed_usages.0
 
 abbrev pub format_usage_checks : ℕ → TextureDescriptor → List (Check CreateTextureError)
 format_usage_checks features d =
-    refuse (not (difference d.usage (allowed_usages_of features d.format) == 0))
-    (InvalidFormatUsages (difference d.usage (allowed_usages_of features d.format)) d.format
-    (difference d.usage (guaranteed_features d.format features).allowed_usages == 0))
+    refuse (not (difference d.usage.0 (allowed_usages_of features d.format) == 0))
+    (InvalidFormatUsages (record { 0 = difference d.usage.0 (allowed_usages_of features d.format) }) d.format
+    (difference d.usage.0 (guaranteed_features d.format features).allowed_usages.0 == 0))
     ∷ []
 
 -- ---- 26, 27: view formats: each is the format itself or its twin
@@ -195,7 +195,7 @@ is_twin_listed f (view ∷ views) = is_twin f view || is_twin_listed f views
 
 abbrev pub downlevel_checks : ℕ → TextureFormat → List TextureFormat → List (Check CreateTextureError)
 downlevel_checks flags f views =
-    refuse (is_twin_listed f views && not (contains flags VIEW_FORMATS)) (MissingDownlevelFlags (record { 0 = VIEW_FORMATS })) ∷ []
+    refuse (is_twin_listed f views && not (contains flags VIEW_FORMATS)) (MissingDownlevelFlags (record { 0 = record { 0 = VIEW_FORMATS } })) ∷ []
 
 abbrev pub view_format_checks : ℕ → TextureFormat → List TextureFormat → List (Check CreateTextureError)
 view_format_checks flags f views = each_view_format f views ++ downlevel_checks flags f views
@@ -208,7 +208,7 @@ shape_checks device d =
     ++ map as_dimension (size_checks d.dimension d.size d.sample_count device.limits)
     ++ dimension_checks d
     ++ block_checks d
-    ++ sliced_checks device.features d
+    ++ sliced_checks device.features.0 d
 
 abbrev pub mip_checks : TextureDescriptor → List (Check CreateTextureError)
 mip_checks d = level_checks d ++ transient_checks d
@@ -216,12 +216,12 @@ mip_checks d = level_checks d ++ transient_checks d
 abbrev pub format_checks : ℕ → TextureDescriptor → List (Check CreateTextureError)
 format_checks features d =
     feature_checks features d.format (required_features_of d.format)
-    ++ multisample_checks features (guaranteed_features d.format features).flags d
+    ++ multisample_checks features (guaranteed_features d.format features).flags.0 d
     ++ format_usage_checks features d
 
 abbrev pub create_checks : Capabilities → TextureDescriptor → List (Check CreateTextureError)
 create_checks device d =
     shape_checks device d
     ++ mip_checks d
-    ++ format_checks device.features d
-    ++ view_format_checks device.downlevel_flags d.format d.view_formats.now
+    ++ format_checks device.features.0 d
+    ++ view_format_checks device.downlevel_flags.0 d.format d.view_formats.now

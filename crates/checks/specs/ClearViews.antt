@@ -1,5 +1,5 @@
 -- How many clear views a texture needs.
-use Rattle.std.specs.Prelude.{ℕ, ◌*◌, cond, ◌&&◌, bit_or}
+use Rattle.std.specs.Prelude.{ℕ, ◌*◌, if◌then◌else◌, ◌&&◌, bit_or}
 use Rattle.std.specs.Option.{unwrap_or}
 use Rattle.types.specs.Bits.{intersects}
 use Rattle.types.specs.Dimension.{is_2d}
@@ -11,6 +11,5 @@ use Rattle.types.specs.declared.descriptor.TextureDescriptor.{TextureDescriptor}
 -- One that is not planar has one plane. Other textures need none.
 abbrev pub clear_views_needed : TextureDescriptor → ℕ → ℕ
 clear_views_needed d uses =
-    cond (is_2d d.dimension && intersects uses (bit_or COLOR_TARGET DEPTH_STENCIL_WRITE))
-    (d.mip_level_count * d.size.depth_or_array_layers * unwrap_or (planes_of d.format) 1)
-    0
+    if is_2d d.dimension && intersects uses (bit_or COLOR_TARGET DEPTH_STENCIL_WRITE) then d.mip_level_count * d.size.depth_or_array_layers * unwrap_or (planes_of d.format) 1
+    else 0

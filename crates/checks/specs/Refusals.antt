@@ -68,14 +68,14 @@ number_of (InvalidViewFormat view format) = 26
 number_of (MissingDownlevelFlags missing) = 27
 
 abbrev pub values_of : CreateTextureError → List ℕ
-values_of (InvalidUsage usage) = usage ∷ []
+values_of (InvalidUsage usage) = usage.0 ∷ []
 values_of (InvalidDimension error) = dimension_values error
 values_of (InvalidDepthDimension dimension format) = dimension_code dimension ∷ code_of format ∷ []
-values_of (InvalidDimensionUsages usage dimension) = usage ∷ dimension_code dimension ∷ []
+values_of (InvalidDimensionUsages usage dimension) = usage.0 ∷ dimension_code dimension ∷ []
 values_of (InvalidCompressedDimension dimension format) = dimension_code dimension ∷ code_of format ∷ []
-values_of (MissingFeatures format missing) = code_of format ∷ missing.0 ∷ []
+values_of (MissingFeatures format missing) = code_of format ∷ missing.0.0 ∷ []
 values_of (InvalidMipLevelCount requested maximum) = requested ∷ maximum ∷ []
-values_of (InvalidTransientTextureUsage usage) = usage ∷ []
+values_of (InvalidTransientTextureUsage usage) = usage.0 ∷ []
 values_of (InvalidTransientTextureMipLevelCount levels) = levels ∷ []
 values_of (InvalidTransientTextureLayerCount layers) = layers ∷ []
 values_of InvalidTransientTextureViewFormats = []
@@ -83,9 +83,9 @@ values_of InvalidMultisampledStorageBinding = []
 values_of MultisampledNotRenderAttachment = []
 values_of (InvalidMultisampledFormat format) = code_of format ∷ []
 values_of (InvalidSampleCount count format supported) = count ∷ code_of format ∷ supported ∷ []
-values_of (InvalidFormatUsages missing format allowed) = missing ∷ code_of format ∷ yes allowed ∷ []
+values_of (InvalidFormatUsages missing format allowed) = missing.0 ∷ code_of format ∷ yes allowed ∷ []
 values_of (InvalidViewFormat view format) = code_of view ∷ code_of format ∷ []
-values_of (MissingDownlevelFlags missing) = missing.0 ∷ []
+values_of (MissingDownlevelFlags missing) = missing.0.0 ∷ []
 
 -- an answer that is a refusal with a number from the first to the last
 abbrev pub refused_by : {X : Type 0} → ℕ → ℕ → Result X CreateTextureError → Bool

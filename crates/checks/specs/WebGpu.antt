@@ -18,32 +18,32 @@ use Rattle.types.specs.declared.format.TextureFormat.{TextureFormat}
 -- A device of which WebGPU speaks: views may have other formats, and wgpu's own features are off. MULTIVIEW plays no part in a
 -- texture. A host takes 16 levels, which is enough where no side is longer than 65,535.
 pub record WebGpuDevice (device : Capabilities) : Type 0 where
-  pub view_formats : contains device.downlevel_flags VIEW_FORMATS ≡ true
-  pub no_nv12 : contains device.features NV12_FORMAT ≡ false
-  pub no_multisample_array : contains device.features MULTISAMPLE_ARRAY ≡ false
+  pub view_formats : contains device.downlevel_flags.0 VIEW_FORMATS ≡ true
+  pub no_nv12 : contains device.features.0 NV12_FORMAT ≡ false
+  pub no_multisample_array : contains device.features.0 MULTISAMPLE_ARRAY ≡ false
   pub sides_2d : device.limits.max_texture_dimension_2d ≤ 65535
   pub sides_3d : device.limits.max_texture_dimension_3d ≤ 65535
 
 module _ (device : Capabilities) where
   -- the device has the feature that a format needs
   abbrev pub Enabled : TextureFormat → Type 0
-  Enabled f = contains device.features (required_features_of f) ≡ true
+  Enabled f = contains device.features.0 (required_features_of f) ≡ true
 
   abbrev pub Renderable : TextureFormat → Type 0
-  Renderable f = contains (guaranteed_features f device.features).allowed_usages RENDER_ATTACHMENT ≡ true
+  Renderable f = contains (guaranteed_features f device.features.0).allowed_usages.0 RENDER_ATTACHMENT ≡ true
 
   -- storage with one way of access at least: reading, writing or both
   abbrev pub Storable : TextureFormat → Type 0
-  Storable f = intersects (guaranteed_features f device.features).flags 112 ≡ true
+  Storable f = intersects (guaranteed_features f device.features.0).flags.0 112 ≡ true
 
   abbrev pub Multisamplable : TextureFormat → Type 0
-  Multisamplable f = contains (guaranteed_features f device.features).flags X4 ≡ true
+  Multisamplable f = contains (guaranteed_features f device.features.0).flags.0 X4 ≡ true
 
   -- a compressed format can be 3D where its family can be sliced
   abbrev pub Sliceable : TextureFormat → Type 0
   Sliceable f =
-      ((is_bcn f ≡ true) × (contains device.features BC_SLICED_3D ≡ true))
-      ⊎ ((is_astc f ≡ true) × (contains device.features ASTC_SLICED_3D ≡ true))
+      ((is_bcn f ≡ true) × (contains device.features.0 BC_SLICED_3D ≡ true))
+      ⊎ ((is_astc f ≡ true) × (contains device.features.0 ASTC_SLICED_3D ≡ true))
 
 -- equal, or different in the -srgb suffix alone
 abbrev pub Compatible : TextureFormat → TextureFormat → Type 0
@@ -66,7 +66,7 @@ abbrev pub samples : TextureDescriptor → ℕ
 samples d = d.sample_count
 
 abbrev pub Has : TextureDescriptor → ℕ → Type 0
-Has d usage = contains d.usage usage ≡ true
+Has d usage = contains d.usage.0 usage ≡ true
 
 pub record Rules1D (device : Capabilities) (d : TextureDescriptor) : Type 0 where
   pub width_limit : width d ≤ device.limits.max_texture_dimension_1d
@@ -97,13 +97,13 @@ DimensionRules device d D3 = Rules3D device d
 pub record MultisampleRules (device : Capabilities) (d : TextureDescriptor) : Type 0 where
   pub one_level : levels d ≡ 1
   pub one_layer : depth d ≡ 1
-  pub no_storage : contains d.usage STORAGE_BINDING ≡ false
+  pub no_storage : contains d.usage.0 STORAGE_BINDING ≡ false
   pub attachment : Has d RENDER_ATTACHMENT
   pub format : Multisamplable device d.format
 
 pub record TransientRules (d : TextureDescriptor) : Type 0 where
   -- TRANSIENT_ATTACHMENT and RENDER_ATTACHMENT, and nothing else
-  pub usage : d.usage ≡ 48
+  pub usage : d.usage.0 ≡ 48
   pub two_dimensional : is_2d d.dimension ≡ true
   pub one_level : levels d ≡ 1
   pub one_layer : depth d ≡ 1
@@ -122,8 +122,8 @@ LevelsWithin d D3 = (k : ℕ) × FloorLog2 (largest_side d.size D3) k × (levels
 pub record Accepts (device : Capabilities) (d : TextureDescriptor) : Type 0 where
   pub format_enabled : Enabled device d.format
   pub view_formats_enabled : AllByRecursion (Enabled device) d.view_formats.now
-  pub usage_not_empty : 0 < d.usage
-  pub usage_known : contains WEBGPU_USAGES d.usage ≡ true
+  pub usage_not_empty : 0 < d.usage.0
+  pub usage_known : contains WEBGPU_USAGES d.usage.0 ≡ true
   pub width_positive : 0 < width d
   pub height_positive : 0 < height d
   pub depth_positive : 0 < depth d

@@ -17,33 +17,33 @@ pub(crate) fn check_blocks(desc: &TextureDescriptor) -> Result<(), CreateTexture
     let height = desc.size.height;
     let (block_width, block_height) = format.block_dimensions();
     if format.is_compressed() && !width.is_multiple_of(block_width) {
-        let error = TextureDimensionError::NotMultipleOfBlockWidth {
+        return Err(TextureDimensionError::NotMultipleOfBlockWidth {
             width,
             block_width,
             format,
-        };
-        return Err(CreateTextureError::InvalidDimension(error));
+        }
+        .into());
     }
     if format.is_compressed() && !height.is_multiple_of(block_height) {
-        let error = TextureDimensionError::NotMultipleOfBlockHeight {
+        return Err(TextureDimensionError::NotMultipleOfBlockHeight {
             height,
             block_height,
             format,
-        };
-        return Err(CreateTextureError::InvalidDimension(error));
+        }
+        .into());
     }
     Ok(())
 }
 
 // A compressed format can be 3D only where the device slices it.
 pub(crate) fn check_sliced_3d(
-    features: u32,
+    features: Features,
     desc: &TextureDescriptor,
 ) -> Result<(), CreateTextureError>
-    ensures { result ≡ outcome (sliced_checks features desc.now) }
+    ensures { result ≡ outcome (sliced_checks features.0 desc.now) }
 {
     let format = desc.format;
-    if !matches!(desc.dimension, TextureDimension::D3) || !format.is_compressed() {
+    if desc.dimension != TextureDimension::D3 || !format.is_compressed() {
         return Ok(());
     }
     if format.is_bcn() {
@@ -60,14 +60,13 @@ pub(crate) fn check_sliced_3d(
 }
 
 fn require_sliced(
-    features: u32,
+    features: Features,
     format: TextureFormat,
-    sliced: u32,
+    sliced: Features,
 ) -> Result<(), CreateTextureError>
-    ensures { result ≡ outcome (feature_checks features format sliced) }
+    ensures { result ≡ outcome (feature_checks features.0 format sliced.0) }
 {
-    match require_features(features, sliced) {
-        Ok(()) => Ok(()),
-        Err(missing) => Err(CreateTextureError::MissingFeatures(format, missing)),
-    }
+    require_features(features, sliced).map_err(|missing| CreateTextureError::MissingFeatures(
+        format, missing,
+    ))
 }

@@ -4,7 +4,7 @@ ghost use Rattle.checks.specs.Check.{outcome};
 ghost use Rattle.checks.specs.Checks.{dimension_checks};
 
 use crate::error::CreateTextureError;
-use types::bits;
+use types::bits::BitSet;
 use types::descriptor::TextureDescriptor;
 use types::dimension::TextureDimension;
 use types::usages::TextureUsages;
@@ -13,12 +13,12 @@ pub(crate) fn check_dimension(desc: &TextureDescriptor) -> Result<(), CreateText
     ensures { result ≡ outcome (dimension_checks desc.now) }
 {
     let dimension = desc.dimension;
-    let is_1d = matches!(dimension, TextureDimension::D1);
-    let is_2d = matches!(dimension, TextureDimension::D2);
+    let is_1d = dimension == TextureDimension::D1;
+    let is_2d = dimension == TextureDimension::D2;
     if !is_2d && desc.format.is_depth_stencil_format() {
         return Err(CreateTextureError::InvalidDepthDimension(dimension, desc.format));
     }
-    if !is_2d && bits::contains(desc.usage, TextureUsages::TRANSIENT_ATTACHMENT) {
+    if !is_2d && desc.usage.contains(TextureUsages::TRANSIENT_ATTACHMENT) {
         return Err(CreateTextureError::InvalidDimensionUsages(
             TextureUsages::TRANSIENT_ATTACHMENT,
             dimension,
@@ -27,7 +27,7 @@ pub(crate) fn check_dimension(desc: &TextureDescriptor) -> Result<(), CreateText
     if is_1d && desc.format.is_compressed() {
         return Err(CreateTextureError::InvalidCompressedDimension(dimension, desc.format));
     }
-    if is_1d && bits::contains(desc.usage, TextureUsages::RENDER_ATTACHMENT) {
+    if is_1d && desc.usage.contains(TextureUsages::RENDER_ATTACHMENT) {
         return Err(CreateTextureError::InvalidDimensionUsages(
             TextureUsages::RENDER_ATTACHMENT,
             dimension,

@@ -3,18 +3,20 @@ ghost use Rattle.std.specs.Prelude.{◌≡◌};
 ghost use Rattle.checks.specs.declared.error.CreateTextureError.TheVariants.{InvalidDimension as Dimensional};
 
 use types::dimension::TextureDimension;
+use types::downlevel_flags::DownlevelFlags;
 use types::features::MissingFeatures;
 use types::format::TextureFormat;
+use types::usages::TextureUsages;
 
 // The side of a texture that a refusal speaks of: width, height, and depth or layers.
-#[derive(Clone, Copy)]
+#[derive(Clone, Copy, Debug, PartialEq, Eq)]
 pub enum TextureErrorDimension {
     X,
     Y,
     Z,
 }
 
-#[derive(Clone, Copy)]
+#[derive(Clone, Copy, Debug, PartialEq, Eq)]
 pub enum TextureDimensionError {
     Zero(TextureErrorDimension),
     LimitExceeded {
@@ -47,19 +49,19 @@ pub enum TextureDimensionError {
 }
 
 // The downlevel flags that were required and that the device has not all.
-#[derive(Clone, Copy)]
-pub struct MissingDownlevelFlags(pub u32);
+#[derive(Clone, Copy, Debug, PartialEq, Eq)]
+pub struct MissingDownlevelFlags(pub DownlevelFlags);
 
-#[derive(Clone, Copy)]
+#[derive(Clone, Copy, Debug, PartialEq, Eq)]
 pub enum CreateTextureError {
-    InvalidUsage(u32),
+    InvalidUsage(TextureUsages),
     InvalidDimension(TextureDimensionError),
     InvalidDepthDimension(TextureDimension, TextureFormat),
-    InvalidDimensionUsages(u32, TextureDimension),
+    InvalidDimensionUsages(TextureUsages, TextureDimension),
     InvalidCompressedDimension(TextureDimension, TextureFormat),
     MissingFeatures(TextureFormat, MissingFeatures),
     InvalidMipLevelCount { requested: u32, maximum: u32 },
-    InvalidTransientTextureUsage(u32),
+    InvalidTransientTextureUsage(TextureUsages),
     InvalidTransientTextureMipLevelCount(u32),
     InvalidTransientTextureLayerCount(u32),
     InvalidTransientTextureViewFormats,
@@ -69,7 +71,7 @@ pub enum CreateTextureError {
     // the count, the format, and the sum of the counts that the format can have
     InvalidSampleCount(u32, TextureFormat, u32),
     // the usages that are not allowed, the format, and whether WebGPU would allow the whole usage
-    InvalidFormatUsages(u32, TextureFormat, bool),
+    InvalidFormatUsages(TextureUsages, TextureFormat, bool),
     InvalidViewFormat(TextureFormat, TextureFormat),
     MissingDownlevelFlags(MissingDownlevelFlags),
 }

@@ -21,21 +21,21 @@ pub(crate) fn check_levels(desc: &TextureDescriptor) -> Result<(), CreateTexture
     let (width_multiple, height_multiple) = level_multiple(format, requested);
     if !width.is_multiple_of(width_multiple) {
         let multiple = width_multiple;
-        let error = TextureDimensionError::WidthNotMultipleOf {
+        return Err(TextureDimensionError::WidthNotMultipleOf {
             width,
             multiple,
             format,
-        };
-        return Err(CreateTextureError::InvalidDimension(error));
+        }
+        .into());
     }
     if !height.is_multiple_of(height_multiple) {
         let multiple = height_multiple;
-        let error = TextureDimensionError::HeightNotMultipleOf {
+        return Err(TextureDimensionError::HeightNotMultipleOf {
             height,
             multiple,
             format,
-        };
-        return Err(CreateTextureError::InvalidDimension(error));
+        }
+        .into());
     }
     Ok(())
 }

@@ -4,24 +4,25 @@ ghost use Rattle.checks.specs.Check.{outcome};
 ghost use Rattle.checks.specs.Checks.{multisample_checks};
 
 use crate::error::{CreateTextureError, TextureDimensionError};
-use types::bits;
+use types::bits::BitSet;
 use types::descriptor::TextureDescriptor;
 use types::features::Features;
 use types::format_features::TextureFormatFeatureFlags as Flags;
-use types::sample_counts::{sample_count_supported, supported_sample_counts};
 use types::usages::TextureUsages;
 
-const MULTISAMPLED: u32 = Flags::MULTISAMPLE_X2
-    | Flags::MULTISAMPLE_X4
-    | Flags::MULTISAMPLE_X8
-    | Flags::MULTISAMPLE_X16;
+const MULTISAMPLED: Flags = Flags(
+    Flags::MULTISAMPLE_X2.0
+        | Flags::MULTISAMPLE_X4.0
+        | Flags::MULTISAMPLE_X8.0
+        | Flags::MULTISAMPLE_X16.0,
+);
 
 pub(crate) fn check_multisampling(
-    features: u32,
-    flags: u32,
+    features: Features,
+    flags: Flags,
     desc: &TextureDescriptor,
 ) -> Result<(), CreateTextureError>
-    ensures { result ≡ outcome (multisample_checks features flags desc.now) }
+    ensures { result ≡ outcome (multisample_checks features.0 flags.0 desc.now) }
 {
     let samples = desc.sample_count;
     let layers = desc.size.depth_or_array_layers;
@@ -34,22 +35,20 @@ pub(crate) fn check_multisampling(
             maximum: 1,
         });
     }
-    if layers != 1 && !bits::contains(features, Features::MULTISAMPLE_ARRAY) {
-        return Err(CreateTextureError::InvalidDimension(
-            TextureDimensionError::MultisampledDepthOrArrayLayer(layers),
-        ));
+    if layers != 1 && !features.contains(Features::MULTISAMPLE_ARRAY) {
+        return Err(TextureDimensionError::MultisampledDepthOrArrayLayer(layers).into());
     }
-    if bits::contains(desc.usage, TextureUsages::STORAGE_BINDING) {
+    if desc.usage.contains(TextureUsages::STORAGE_BINDING) {
         return Err(CreateTextureError::InvalidMultisampledStorageBinding);
     }
-    if !bits::contains(desc.usage, TextureUsages::RENDER_ATTACHMENT) {
+    if !desc.usage.contains(TextureUsages::RENDER_ATTACHMENT) {
         return Err(CreateTextureError::MultisampledNotRenderAttachment);
     }
-    if !bits::intersects(flags, MULTISAMPLED) {
+    if !flags.intersects(MULTISAMPLED) {
         return Err(CreateTextureError::InvalidMultisampledFormat(desc.format));
     }
-    if !sample_count_supported(flags, samples) {
-        let supported = supported_sample_counts(flags);
+    if !flags.sample_count_supported(samples) {
+        let supported = flags.supported_sample_counts();
         return Err(CreateTextureError::InvalidSampleCount(samples, desc.format, supported));
     }
     Ok(())

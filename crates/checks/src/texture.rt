@@ -1,8 +1,10 @@
-// The checks of a texture request, one group after the other: the first refusal is the answer.
-ghost use Rattle.std.specs.Prelude.{◌≡◌, not, Decides};
+// The checks of a texture request, one group after the other: the first refusal is the answer. A group takes what it reads and
+// no more, so that its signature says what its refusals can depend on.
+ghost use Rattle.std.specs.Prelude.{◌≡◌, ◌↔◌, not, IsTrue};
 ghost use Rattle.checks.specs.Check.{outcome, answered};
-ghost use Rattle.checks.specs.Checks.{shape_checks, mip_checks, format_checks, create_checks, is_twin_listed};
+ghost use Rattle.checks.specs.Checks.{feature_checks, shape_checks, mip_checks, format_checks, create_checks, is_twin_listed};
 ghost use Rattle.checks.specs.Refusals.{refused_by};
+ghost use Rattle.types.specs.Formats.{guaranteed_features, required_features_of};
 ghost use Rattle.checks.specs.WebGpu.{Accepts, WebGpuDevice};
 
 use crate::blocks::{check_blocks, check_sliced_3d};
@@ -17,6 +19,9 @@ use crate::usage::check_usage;
 use crate::view_formats::check_view_formats;
 use types::capabilities::Capabilities;
 use types::descriptor::TextureDescriptor;
+use types::features::Features;
+use types::format::TextureFormat;
+use types::format_features::TextureFormatFeatures;
 use types::format_info::describe_format_features;
 
 // Whether the format's twin is among the view formats of a request that passes every check.
@@ -25,7 +30,7 @@ pub fn check_texture_descriptor(
     desc: &TextureDescriptor,
 ) -> Result<bool, CreateTextureError>
     ensures value { result ≡ answered (create_checks device.now desc.now) (is_twin_listed desc.now.format desc.now.view_formats.now) }
-    ensures webgpu { WebGpuDevice device.now → Decides (not (refused_by 3 27 result)) (Accepts device.now desc.now) }
+    ensures webgpu { WebGpuDevice device.now → IsTrue (not (refused_by 3 27 result)) ↔ Accepts device.now desc.now }
 {
     check_shape(device, desc)?;
     check_mips(desc)?;
@@ -50,13 +55,22 @@ fn check_mips(desc: &TextureDescriptor) -> Result<(), CreateTextureError>
     check_transient(desc)
 }
 
-fn check_format(features: u32, desc: &TextureDescriptor) -> Result<(), CreateTextureError>
-    ensures { result ≡ outcome (format_checks features desc.now) }
+fn check_format(features: Features, desc: &TextureDescriptor) -> Result<(), CreateTextureError>
+    ensures { result ≡ outcome (format_checks features.0 desc.now) }
 {
-    let format_features = match describe_format_features(features, desc.format) {
-        Ok(format_features) => format_features,
-        Err(missing) => return Err(CreateTextureError::MissingFeatures(desc.format, missing)),
-    };
+    let format_features = described(features, desc.format)?;
     check_multisampling(features, format_features.flags, desc)?;
     check_format_usage(features, desc)
+}
+
+// What the device may do with the format, if it has the feature that the format needs.
+fn described(
+    features: Features,
+    format: TextureFormat,
+) -> Result<TextureFormatFeatures, CreateTextureError>
+    ensures { result ≡ answered (feature_checks features.0 format (required_features_of format)) (guaranteed_features format features.0) }
+{
+    describe_format_features(features, format).map_err(
+        |missing| CreateTextureError::MissingFeatures(format, missing),
+    )
 }

@@ -4,17 +4,21 @@ ghost use Rattle.checks.specs.Check.{outcome};
 ghost use Rattle.checks.specs.Checks.{transient_checks};
 
 use crate::error::CreateTextureError;
-use types::bits;
+use types::bits::BitSet;
 use types::descriptor::TextureDescriptor;
 use types::usages::TextureUsages;
+
+const TRANSIENT: TextureUsages = TextureUsages(
+    TextureUsages::TRANSIENT_ATTACHMENT.0 | TextureUsages::RENDER_ATTACHMENT.0,
+);
 
 pub(crate) fn check_transient(desc: &TextureDescriptor) -> Result<(), CreateTextureError>
     ensures { result ≡ outcome (transient_checks desc.now) }
 {
-    if !bits::contains(desc.usage, TextureUsages::TRANSIENT_ATTACHMENT) {
+    if !desc.usage.contains(TextureUsages::TRANSIENT_ATTACHMENT) {
         return Ok(());
     }
-    if desc.usage != TextureUsages::TRANSIENT_ATTACHMENT | TextureUsages::RENDER_ATTACHMENT {
+    if desc.usage != TRANSIENT {
         return Err(CreateTextureError::InvalidTransientTextureUsage(desc.usage));
     }
     if desc.mip_level_count != 1 {

@@ -4,13 +4,13 @@ ghost use Rattle.checks.specs.Check.{outcome};
 ghost use Rattle.checks.specs.Checks.{usage_checks};
 
 use crate::error::CreateTextureError;
-use types::bits;
+use types::bits::BitSet;
 use types::usages::TextureUsages;
 
-pub(crate) fn check_usage(usage: u32) -> Result<(), CreateTextureError>
+pub(crate) fn check_usage(usage: TextureUsages) -> Result<(), CreateTextureError>
     ensures { result ≡ outcome (usage_checks usage) }
 {
-    if usage == 0 || bits::difference(usage, TextureUsages::ALL) != 0 {
+    if usage.is_empty() || !usage.difference(TextureUsages::ALL).is_empty() {
         return Err(CreateTextureError::InvalidUsage(usage));
     }
     Ok(())

@@ -4,20 +4,20 @@ ghost use Rattle.checks.specs.Check.{answered};
 ghost use Rattle.checks.specs.Checks.{each_view_format, view_format_checks, is_twin_listed, is_twin};
 
 use crate::error::{CreateTextureError, MissingDownlevelFlags};
-use types::bits;
-use types::features::DownlevelFlags;
+use types::bits::BitSet;
+use types::downlevel_flags::DownlevelFlags;
 use types::format::TextureFormat;
 
 // Whether the twin of the format is among the view formats.
 pub(crate) fn check_view_formats(
-    downlevel_flags: u32,
+    downlevel_flags: DownlevelFlags,
     format: TextureFormat,
     view_formats: &[TextureFormat],
 ) -> Result<bool, CreateTextureError>
-    ensures { result ≡ answered (view_format_checks downlevel_flags format view_formats.now) (is_twin_listed format view_formats.now) }
+    ensures { result ≡ answered (view_format_checks downlevel_flags.0 format view_formats.now) (is_twin_listed format view_formats.now) }
 {
     let twin_listed = look_for_twin(format, view_formats)?;
-    if twin_listed && !bits::contains(downlevel_flags, DownlevelFlags::VIEW_FORMATS) {
+    if twin_listed && !downlevel_flags.contains(DownlevelFlags::VIEW_FORMATS) {
         let missing = MissingDownlevelFlags(DownlevelFlags::VIEW_FORMATS);
         return Err(CreateTextureError::MissingDownlevelFlags(missing));
     }
@@ -44,8 +44,5 @@ fn look_for_twin(
 fn is_twin(format: TextureFormat, other: TextureFormat) -> bool
     ensures { result ≡ is_twin format other }
 {
-    match format.twin() {
-        Some(twin) => twin == other,
-        None => false,
-    }
+    format.twin() == Some(other)
 }

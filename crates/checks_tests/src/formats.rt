@@ -1,137 +1,148 @@
 // Every format in every dimension with every usage.
-use crate::device::{DEVICE, SAMPLED};
-use crate::refusal;
+use crate::requests::{SAMPLED, refusal};
+use types::bits::BitSet;
 use types::capabilities::Capabilities;
 use types::descriptor::TextureDescriptor;
 use types::dimension::TextureDimension;
 use types::extent::Extent3d;
+use types::features::Features;
 use types::format::TextureFormat;
+use types::usages::TextureUsages;
 
 // The usages that a format allows, and the feature that it needs. A planar format allows what its planes do.
 struct Row {
     format: TextureFormat,
-    usages: u32,
-    needs: u32,
+    usages: TextureUsages,
+    needs: Features,
 }
 
 static ROWS: [Row; 22] = [
     Row {
         format: TextureFormat::R8Unorm,
-        usages: 55,
-        needs: 0,
+        usages: TextureUsages(55),
+        needs: Features::NONE,
     },
     Row {
         format: TextureFormat::Rg8Unorm,
-        usages: 55,
-        needs: 0,
+        usages: TextureUsages(55),
+        needs: Features::NONE,
     },
     Row {
         format: TextureFormat::Rgba8Unorm,
-        usages: 63,
-        needs: 0,
+        usages: TextureUsages(63),
+        needs: Features::NONE,
     },
     Row {
         format: TextureFormat::Rgba8UnormSrgb,
-        usages: 55,
-        needs: 0,
+        usages: TextureUsages(55),
+        needs: Features::NONE,
     },
     Row {
         format: TextureFormat::Bgra8Unorm,
-        usages: 55,
-        needs: 0,
+        usages: TextureUsages(55),
+        needs: Features::NONE,
     },
     Row {
         format: TextureFormat::Bgra8UnormSrgb,
-        usages: 55,
-        needs: 0,
+        usages: TextureUsages(55),
+        needs: Features::NONE,
     },
     Row {
         format: TextureFormat::R32Uint,
-        usages: 63,
-        needs: 0,
+        usages: TextureUsages(63),
+        needs: Features::NONE,
     },
     Row {
         format: TextureFormat::R32Float,
-        usages: 63,
-        needs: 0,
+        usages: TextureUsages(63),
+        needs: Features::NONE,
     },
     Row {
         format: TextureFormat::Rgba16Float,
-        usages: 63,
-        needs: 0,
+        usages: TextureUsages(63),
+        needs: Features::NONE,
     },
     Row {
         format: TextureFormat::Rgba32Float,
-        usages: 63,
-        needs: 0,
+        usages: TextureUsages(63),
+        needs: Features::NONE,
     },
     Row {
         format: TextureFormat::Depth16Unorm,
-        usages: 55,
-        needs: 0,
+        usages: TextureUsages(55),
+        needs: Features::NONE,
     },
     Row {
         format: TextureFormat::Depth24Plus,
-        usages: 55,
-        needs: 0,
+        usages: TextureUsages(55),
+        needs: Features::NONE,
     },
     Row {
         format: TextureFormat::Depth32Float,
-        usages: 55,
-        needs: 0,
+        usages: TextureUsages(55),
+        needs: Features::NONE,
     },
     Row {
         format: TextureFormat::Stencil8,
-        usages: 55,
-        needs: 0,
+        usages: TextureUsages(55),
+        needs: Features::NONE,
     },
     Row {
         format: TextureFormat::Depth24PlusStencil8,
-        usages: 55,
-        needs: 0,
+        usages: TextureUsages(55),
+        needs: Features::NONE,
     },
     Row {
         format: TextureFormat::Depth32FloatStencil8,
-        usages: 55,
-        needs: 32,
+        usages: TextureUsages(55),
+        needs: Features(32),
     },
     Row {
         format: TextureFormat::Bc1RgbaUnorm,
-        usages: 7,
-        needs: 1,
+        usages: TextureUsages(7),
+        needs: Features(1),
     },
     Row {
         format: TextureFormat::Bc1RgbaUnormSrgb,
-        usages: 7,
-        needs: 1,
+        usages: TextureUsages(7),
+        needs: Features(1),
     },
     Row {
         format: TextureFormat::EacR11Unorm,
-        usages: 7,
-        needs: 4,
+        usages: TextureUsages(7),
+        needs: Features(4),
     },
     Row {
         format: TextureFormat::Astc8x5Unorm,
-        usages: 7,
-        needs: 8,
+        usages: TextureUsages(7),
+        needs: Features(8),
     },
     Row {
         format: TextureFormat::Astc8x5UnormSrgb,
-        usages: 7,
-        needs: 8,
+        usages: TextureUsages(7),
+        needs: Features(8),
     },
     Row {
         format: TextureFormat::NV12,
-        usages: 55,
-        needs: 64,
+        usages: TextureUsages(55),
+        needs: Features(64),
     },
 ];
 
-static USAGES: [u32; 8] = [1, 2, 4, 8, 16, 32, 64, 128];
+static USAGES: [TextureUsages; 8] = [
+    TextureUsages(1),
+    TextureUsages(2),
+    TextureUsages(4),
+    TextureUsages(8),
+    TextureUsages(16),
+    TextureUsages(32),
+    TextureUsages(64),
+    TextureUsages(128),
+];
 
 const ALL_FEATURES: Capabilities = Capabilities {
-    features: 511,
-    ..DEVICE
+    features: Features(511),
+    ..Capabilities::DEFAULT
 };
 
 // Sides that hold whole blocks of every format.
@@ -161,43 +172,94 @@ const CUBE: TextureDescriptor<'static> = TextureDescriptor {
 
 // The refusals with every feature, by the first rule that a request breaks.
 
-fn in_1d(code: u32, usage: u32) -> u32 {
-    match code {
-        _ if usage == 128 => 3,
-        11..=16 => 7,
-        _ if usage == 32 => 8,
-        17..=21 => 9,
-        _ if usage == 16 => 8,
-        // one row of texels is no multiple of two
-        22 => 15,
-        _ => 0,
-    }
-}
-
-fn in_2d(usage: u32) -> u32 {
+fn in_1d(format: TextureFormat, usage: TextureUsages) -> Option<u32> {
     match usage {
-        128 => 3,
-        32 => 16,
-        _ => 0,
+        TextureUsages(128) => Some(3),
+        _ if has_depth_or_stencil(format) => Some(7),
+        TextureUsages(32) => Some(8),
+        _ if is_in_blocks(format) => Some(9),
+        TextureUsages(16) => Some(8),
+        // one row of texels is no multiple of two
+        _ if format == TextureFormat::NV12 => Some(15),
+        _ => None,
     }
 }
 
-fn in_3d(code: u32, usage: u32) -> u32 {
-    match code {
-        _ if usage == 128 => 3,
-        11..=16 => 7,
-        _ if usage == 32 => 8,
-        19 => 9,
-        _ => 0,
+fn in_2d(usage: TextureUsages) -> Option<u32> {
+    match usage {
+        TextureUsages(128) => Some(3),
+        TextureUsages(32) => Some(16),
+        _ => None,
+    }
+}
+
+fn in_3d(format: TextureFormat, usage: TextureUsages) -> Option<u32> {
+    match usage {
+        TextureUsages(128) => Some(3),
+        _ if has_depth_or_stencil(format) => Some(7),
+        TextureUsages(32) => Some(8),
+        // no feature slices it
+        _ if format == TextureFormat::EacR11Unorm => Some(9),
+        _ => None,
     }
 }
 
 // What is not refused for its dimension may still be refused for its usage.
-fn by_usage(row: &Row, usage: u32, refused: u32) -> u32 {
-    if refused == 0 && row.usages & usage == 0 {
-        25
+fn by_usage(row: &Row, usage: TextureUsages, refused: Option<u32>) -> Option<u32> {
+    if refused.is_none() && row.usages.0 & usage.0 == 0 {
+        Some(25)
     } else {
         refused
+    }
+}
+
+fn has_depth_or_stencil(format: TextureFormat) -> bool {
+    matches!(
+        format,
+        TextureFormat::Depth16Unorm
+            | TextureFormat::Depth24Plus
+            | TextureFormat::Depth32Float
+            | TextureFormat::Stencil8
+            | TextureFormat::Depth24PlusStencil8
+            | TextureFormat::Depth32FloatStencil8
+    )
+}
+
+fn is_in_blocks(format: TextureFormat) -> bool {
+    matches!(
+        format,
+        TextureFormat::Bc1RgbaUnorm
+            | TextureFormat::Bc1RgbaUnormSrgb
+            | TextureFormat::EacR11Unorm
+            | TextureFormat::Astc8x5Unorm
+            | TextureFormat::Astc8x5UnormSrgb
+    )
+}
+
+fn refused_in(
+    base: &TextureDescriptor,
+    format: TextureFormat,
+    usage: TextureUsages,
+) -> Option<u32> {
+    let desc = TextureDescriptor {
+        format,
+        usage,
+        ..*base
+    };
+    refusal(&ALL_FEATURES, &desc)
+}
+
+// A format's code is the number of its row, from 1 on.
+#[test]
+fn every_code(rt: HostRuntime) {
+    for (place, row) in ROWS.iter().enumerate() {
+        let code = u32::from(row.format);
+        assert_eq!(rt;
+            code as usize,
+            place.saturating_add(1),
+            "of {:?}",
+            row.format
+        );
     }
 }
 
@@ -205,36 +267,23 @@ fn by_usage(row: &Row, usage: u32, refused: u32) -> u32 {
 fn every_format_dimension_and_usage(rt: HostRuntime) {
     for row in &ROWS {
         let format = row.format;
-        let code = format.code();
         for usage in &USAGES {
             let usage = *usage;
-            let line = refusal(
-                &ALL_FEATURES,
-                &TextureDescriptor {
-                    format,
-                    usage,
-                    ..LINE
-                },
+            assert_eq!(rt;
+                refused_in(&LINE, format, usage),
+                by_usage(row, usage, in_1d(format, usage)),
+                "{format:?} in 1D with {usage:?}"
             );
-            assert_eq!(rt; line, by_usage(row, usage, in_1d(code, usage)));
-            let square = refusal(
-                &ALL_FEATURES,
-                &TextureDescriptor {
-                    format,
-                    usage,
-                    ..SQUARE
-                },
+            assert_eq!(rt;
+                refused_in(&SQUARE, format, usage),
+                by_usage(row, usage, in_2d(usage)),
+                "{format:?} in 2D with {usage:?}"
             );
-            assert_eq!(rt; square, by_usage(row, usage, in_2d(usage)));
-            let cube = refusal(
-                &ALL_FEATURES,
-                &TextureDescriptor {
-                    format,
-                    usage,
-                    ..CUBE
-                },
+            assert_eq!(rt;
+                refused_in(&CUBE, format, usage),
+                by_usage(row, usage, in_3d(format, usage)),
+                "{format:?} in 3D with {usage:?}"
             );
-            assert_eq!(rt; cube, by_usage(row, usage, in_3d(code, usage)));
         }
     }
 }
@@ -248,16 +297,18 @@ fn every_needed_feature(rt: HostRuntime) {
         };
         let needed = Capabilities {
             features: row.needs,
-            ..DEVICE
+            ..Capabilities::DEFAULT
         };
-        assert_eq!(rt; refusal(&needed, &desc), 0);
+        assert_eq!(rt; refusal(&needed, &desc), None, "{:?}", row.format);
         let others = Capabilities {
-            features: 511 ^ row.needs,
-            ..DEVICE
+            features: Features(511 ^ row.needs.0),
+            ..Capabilities::DEFAULT
         };
         assert_eq!(rt;
             refusal(&others, &desc),
-            if row.needs == 0 { 0 } else { 12 }
+            if row.needs.0 == 0 { None } else { Some(12) },
+            "{:?}",
+            row.format
         );
     }
 }

@@ -1,6 +1,5 @@
 // The level count: the binary digits of the largest side, and depth is a side in 3D alone.
-use crate::device::{DEVICE, SAMPLED};
-use crate::refusal;
+use crate::requests::{SAMPLED, refusal};
 use types::capabilities::Capabilities;
 use types::descriptor::TextureDescriptor;
 use types::dimension::TextureDimension;
@@ -14,7 +13,7 @@ const WIDE: Capabilities = Capabilities {
         max_texture_dimension_3d: 65535,
         max_texture_array_layers: 2048,
     },
-    ..DEVICE
+    ..Capabilities::DEFAULT
 };
 
 struct Case {
@@ -98,7 +97,7 @@ static CASES: [Case; 8] = [
     },
 ];
 
-fn refused_at(case: &Case, levels: u32) -> u32 {
+fn refused_at(case: &Case, levels: u32) -> Option<u32> {
     let desc = TextureDescriptor {
         dimension: case.dimension,
         size: case.size,
@@ -111,10 +110,15 @@ fn refused_at(case: &Case, levels: u32) -> u32 {
 #[test]
 fn levels_end_at_the_last_digit(rt: HostRuntime) {
     for case in &CASES {
-        assert_eq!(rt; refused_at(case, 0), 13);
-        assert_eq!(rt; refused_at(case, 1), 0);
-        assert_eq!(rt; refused_at(case, case.maximum), 0);
-        assert_eq!(rt; refused_at(case, case.maximum.saturating_add(1)), 13);
-        assert_eq!(rt; refused_at(case, 4294967295), 13);
+        let size = case.size;
+        assert_eq!(rt; refused_at(case, 0), Some(13), "{size:?}");
+        assert_eq!(rt; refused_at(case, 1), None, "{size:?}");
+        assert_eq!(rt; refused_at(case, case.maximum), None, "{size:?}");
+        assert_eq!(rt;
+            refused_at(case, case.maximum.saturating_add(1)),
+            Some(13),
+            "{size:?}"
+        );
+        assert_eq!(rt; refused_at(case, u32::MAX), Some(13), "{size:?}");
     }
 }

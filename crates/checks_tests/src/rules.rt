@@ -1,33 +1,34 @@
 // One request for each rule, with the number and the values that its refusal carries, worked out by hand.
-use crate::device::{DEVICE, SAMPLED};
+use crate::requests::{SAMPLED, check_refused};
 use checks::refusal::Values;
-use checks::texture::check_texture_descriptor;
-use std::process::Abort;
 use std::test::Fail;
 use types::capabilities::Capabilities;
 use types::descriptor::TextureDescriptor;
 use types::dimension::TextureDimension;
+use types::downlevel_flags::DownlevelFlags;
 use types::extent::Extent3d;
+use types::features::Features;
 use types::format::TextureFormat;
+use types::usages::TextureUsages;
 
 struct Case {
     desc: TextureDescriptor<'static>,
     number: u32,
-    values: &'static [u32],
+    values: Values,
 }
 
 static CASES: [Case; 35] = [
     Case {
         desc: TextureDescriptor {
-            usage: 0,
+            usage: TextureUsages(0),
             ..SAMPLED
         },
         number: 3,
-        values: &[0],
+        values: Values::One(0),
     },
     Case {
         desc: TextureDescriptor {
-            usage: 0,
+            usage: TextureUsages(0),
             size: Extent3d {
                 width: 0,
                 height: 1,
@@ -36,7 +37,7 @@ static CASES: [Case; 35] = [
             ..SAMPLED
         },
         number: 3,
-        values: &[0],
+        values: Values::One(0),
     },
     Case {
         desc: TextureDescriptor {
@@ -48,7 +49,7 @@ static CASES: [Case; 35] = [
             ..SAMPLED
         },
         number: 4,
-        values: &[1],
+        values: Values::One(1),
     },
     Case {
         desc: TextureDescriptor {
@@ -60,7 +61,7 @@ static CASES: [Case; 35] = [
             ..SAMPLED
         },
         number: 4,
-        values: &[2],
+        values: Values::One(2),
     },
     Case {
         desc: TextureDescriptor {
@@ -72,7 +73,7 @@ static CASES: [Case; 35] = [
             ..SAMPLED
         },
         number: 4,
-        values: &[3],
+        values: Values::One(3),
     },
     Case {
         desc: TextureDescriptor {
@@ -84,7 +85,7 @@ static CASES: [Case; 35] = [
             ..SAMPLED
         },
         number: 5,
-        values: &[1, 8193, 8192],
+        values: Values::Three(1, 8193, 8192),
     },
     Case {
         desc: TextureDescriptor {
@@ -96,7 +97,7 @@ static CASES: [Case; 35] = [
             ..SAMPLED
         },
         number: 5,
-        values: &[3, 257, 256],
+        values: Values::Three(3, 257, 256),
     },
     Case {
         desc: TextureDescriptor {
@@ -104,54 +105,54 @@ static CASES: [Case; 35] = [
             ..SAMPLED
         },
         number: 6,
-        values: &[3],
+        values: Values::One(3),
     },
     Case {
         desc: TextureDescriptor {
             dimension: TextureDimension::D3,
             format: TextureFormat::Depth16Unorm,
-            usage: 48,
+            usage: TextureUsages(48),
             ..SAMPLED
         },
         number: 7,
-        values: &[3, 11],
+        values: Values::Two(3, 11),
     },
     Case {
         desc: TextureDescriptor {
             dimension: TextureDimension::D3,
-            usage: 48,
+            usage: TextureUsages(48),
             ..SAMPLED
         },
         number: 8,
-        values: &[32, 3],
+        values: Values::Two(32, 3),
     },
     Case {
         desc: TextureDescriptor {
             dimension: TextureDimension::D1,
-            usage: 48,
+            usage: TextureUsages(48),
             ..SAMPLED
         },
         number: 8,
-        values: &[32, 1],
+        values: Values::Two(32, 1),
     },
     Case {
         desc: TextureDescriptor {
             dimension: TextureDimension::D1,
-            usage: 16,
+            usage: TextureUsages(16),
             ..SAMPLED
         },
         number: 8,
-        values: &[16, 1],
+        values: Values::Two(16, 1),
     },
     Case {
         desc: TextureDescriptor {
             dimension: TextureDimension::D1,
             format: TextureFormat::Bc1RgbaUnorm,
-            usage: 16,
+            usage: TextureUsages(16),
             ..SAMPLED
         },
         number: 9,
-        values: &[1, 17],
+        values: Values::Two(1, 17),
     },
     Case {
         desc: TextureDescriptor {
@@ -164,7 +165,7 @@ static CASES: [Case; 35] = [
             ..SAMPLED
         },
         number: 10,
-        values: &[5, 4, 17],
+        values: Values::Three(5, 4, 17),
     },
     Case {
         desc: TextureDescriptor {
@@ -177,7 +178,7 @@ static CASES: [Case; 35] = [
             ..SAMPLED
         },
         number: 11,
-        values: &[4, 5, 20],
+        values: Values::Three(4, 5, 20),
     },
     Case {
         desc: TextureDescriptor {
@@ -191,7 +192,7 @@ static CASES: [Case; 35] = [
             ..SAMPLED
         },
         number: 12,
-        values: &[18, 2],
+        values: Values::Two(18, 2),
     },
     Case {
         desc: TextureDescriptor {
@@ -205,7 +206,7 @@ static CASES: [Case; 35] = [
             ..SAMPLED
         },
         number: 12,
-        values: &[21, 16],
+        values: Values::Two(21, 16),
     },
     Case {
         desc: TextureDescriptor {
@@ -219,7 +220,7 @@ static CASES: [Case; 35] = [
             ..SAMPLED
         },
         number: 9,
-        values: &[3, 19],
+        values: Values::Two(3, 19),
     },
     Case {
         desc: TextureDescriptor {
@@ -232,7 +233,7 @@ static CASES: [Case; 35] = [
             ..SAMPLED
         },
         number: 13,
-        values: &[3, 2],
+        values: Values::Two(3, 2),
     },
     Case {
         desc: TextureDescriptor {
@@ -245,7 +246,7 @@ static CASES: [Case; 35] = [
             ..SAMPLED
         },
         number: 14,
-        values: &[3, 2, 22],
+        values: Values::Three(3, 2, 22),
     },
     Case {
         desc: TextureDescriptor {
@@ -259,7 +260,7 @@ static CASES: [Case; 35] = [
             ..SAMPLED
         },
         number: 14,
-        values: &[6, 4, 22],
+        values: Values::Three(6, 4, 22),
     },
     Case {
         desc: TextureDescriptor {
@@ -272,7 +273,7 @@ static CASES: [Case; 35] = [
             ..SAMPLED
         },
         number: 15,
-        values: &[3, 2, 22],
+        values: Values::Three(3, 2, 22),
     },
     Case {
         desc: TextureDescriptor {
@@ -282,11 +283,11 @@ static CASES: [Case; 35] = [
                 depth_or_array_layers: 1,
             },
             mip_level_count: 2,
-            usage: 33,
+            usage: TextureUsages(33),
             ..SAMPLED
         },
         number: 16,
-        values: &[33],
+        values: Values::One(33),
     },
     Case {
         desc: TextureDescriptor {
@@ -296,11 +297,11 @@ static CASES: [Case; 35] = [
                 depth_or_array_layers: 2,
             },
             mip_level_count: 2,
-            usage: 48,
+            usage: TextureUsages(48),
             ..SAMPLED
         },
         number: 17,
-        values: &[2],
+        values: Values::One(2),
     },
     Case {
         desc: TextureDescriptor {
@@ -309,21 +310,21 @@ static CASES: [Case; 35] = [
                 height: 1,
                 depth_or_array_layers: 2,
             },
-            usage: 48,
+            usage: TextureUsages(48),
             view_formats: &[TextureFormat::Rgba8Unorm],
             ..SAMPLED
         },
         number: 18,
-        values: &[2],
+        values: Values::One(2),
     },
     Case {
         desc: TextureDescriptor {
-            usage: 48,
+            usage: TextureUsages(48),
             view_formats: &[TextureFormat::Rgba8Unorm],
             ..SAMPLED
         },
         number: 19,
-        values: &[],
+        values: Values::Nothing,
     },
     Case {
         desc: TextureDescriptor {
@@ -333,11 +334,11 @@ static CASES: [Case; 35] = [
                 depth_or_array_layers: 1,
             },
             format: TextureFormat::EacR11Unorm,
-            usage: 16,
+            usage: TextureUsages(16),
             ..SAMPLED
         },
         number: 12,
-        values: &[19, 4],
+        values: Values::Two(19, 4),
     },
     Case {
         desc: TextureDescriptor {
@@ -351,7 +352,7 @@ static CASES: [Case; 35] = [
             ..SAMPLED
         },
         number: 13,
-        values: &[2, 1],
+        values: Values::Two(2, 1),
     },
     Case {
         desc: TextureDescriptor {
@@ -361,20 +362,20 @@ static CASES: [Case; 35] = [
                 depth_or_array_layers: 3,
             },
             sample_count: 4,
-            usage: 24,
+            usage: TextureUsages(24),
             ..SAMPLED
         },
         number: 20,
-        values: &[3],
+        values: Values::One(3),
     },
     Case {
         desc: TextureDescriptor {
             sample_count: 4,
-            usage: 8,
+            usage: TextureUsages(8),
             ..SAMPLED
         },
         number: 21,
-        values: &[],
+        values: Values::Nothing,
     },
     Case {
         desc: TextureDescriptor {
@@ -383,35 +384,35 @@ static CASES: [Case; 35] = [
             ..SAMPLED
         },
         number: 22,
-        values: &[],
+        values: Values::Nothing,
     },
     Case {
         desc: TextureDescriptor {
             sample_count: 2,
             format: TextureFormat::R32Uint,
-            usage: 16,
+            usage: TextureUsages(16),
             ..SAMPLED
         },
         number: 23,
-        values: &[7],
+        values: Values::One(7),
     },
     Case {
         desc: TextureDescriptor {
             sample_count: 16,
-            usage: 80,
+            usage: TextureUsages(80),
             ..SAMPLED
         },
         number: 24,
-        values: &[16, 3, 5],
+        values: Values::Three(16, 3, 5),
     },
     Case {
         desc: TextureDescriptor {
             format: TextureFormat::Bgra8Unorm,
-            usage: 76,
+            usage: TextureUsages(76),
             ..SAMPLED
         },
         number: 25,
-        values: &[72, 5, 0],
+        values: Values::Three(72, 5, 0),
     },
     Case {
         desc: TextureDescriptor {
@@ -423,38 +424,20 @@ static CASES: [Case; 35] = [
             ..SAMPLED
         },
         number: 26,
-        values: &[5, 3],
+        values: Values::Two(5, 3),
     },
 ];
-
-fn is_told(told: Values, values: &[u32]) -> bool {
-    match told {
-        Values::Nothing => values.is_empty(),
-        Values::One(a) => matches!(values, [x] if *x == a),
-        Values::Two(a, b) => matches!(values, [x, y] if *x == a && *y == b),
-        Values::Three(a, b, c) => matches!(values, [x, y, z] if *x == a && *y == b && *z == c),
-    }
-}
-
-fn check_refused(
-    rt: &impl Abort,
-    device: &Capabilities,
-    desc: &TextureDescriptor,
-    number: u32,
-    values: &[u32],
-) -> Result<(), Fail> {
-    let Err(error) = check_texture_descriptor(device, desc) else {
-        return Err(Fail::new("a request that breaks a rule is accepted"));
-    };
-    assert_eq!(rt; error.number(), number);
-    assert!(rt; is_told(error.values(), values));
-    Ok(())
-}
 
 #[test]
 fn each_rule_has_its_number_and_values(rt: HostRuntime) -> Result<(), Fail> {
     for case in &CASES {
-        check_refused(&rt, &DEVICE, &case.desc, case.number, case.values)?;
+        check_refused(
+            &rt,
+            &Capabilities::DEFAULT,
+            &case.desc,
+            case.number,
+            case.values,
+        )?;
     }
     Ok(())
 }
@@ -462,21 +445,21 @@ fn each_rule_has_its_number_and_values(rt: HostRuntime) -> Result<(), Fail> {
 #[test]
 fn a_listed_twin_needs_the_flag(rt: HostRuntime) -> Result<(), Fail> {
     let bare = Capabilities {
-        downlevel_flags: 0,
-        ..DEVICE
+        downlevel_flags: DownlevelFlags(0),
+        ..Capabilities::DEFAULT
     };
     let desc = TextureDescriptor {
         view_formats: &[TextureFormat::Rgba8UnormSrgb],
         ..SAMPLED
     };
-    check_refused(&rt, &bare, &desc, 27, &[1])
+    check_refused(&rt, &bare, &desc, 27, Values::One(1))
 }
 
 #[test]
 fn planes_decide_the_usage_of_nv12(rt: HostRuntime) -> Result<(), Fail> {
     let device = Capabilities {
-        features: 64,
-        ..DEVICE
+        features: Features(64),
+        ..Capabilities::DEFAULT
     };
     let size = Extent3d {
         width: 2,
@@ -491,8 +474,11 @@ fn planes_decide_the_usage_of_nv12(rt: HostRuntime) -> Result<(), Fail> {
     check_refused(
         &rt,
         &device,
-        &TextureDescriptor { usage: 28, ..desc },
+        &TextureDescriptor {
+            usage: TextureUsages(28),
+            ..desc
+        },
         25,
-        &[8, 22, 0],
+        Values::Three(8, 22, 0),
     )
 }

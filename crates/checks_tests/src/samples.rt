@@ -1,9 +1,8 @@
 // Sample counts: powers of two up to 32 in 2D are looked at, one and four are taken.
-use crate::device::{DEVICE, SAMPLED};
-use crate::refusal;
+use crate::requests::{SAMPLED, check_refused, refusal};
 use checks::refusal::Values;
-use checks::texture::check_texture_descriptor;
 use std::test::Fail;
+use types::capabilities::Capabilities;
 use types::descriptor::TextureDescriptor;
 use types::dimension::TextureDimension;
 use types::usages::TextureUsages;
@@ -14,66 +13,61 @@ const DRAWN: TextureDescriptor<'static> = TextureDescriptor {
 };
 
 // A count, and the refusals of it in 2D and elsewhere.
-static COUNTS: [(u32, u32, u32); 12] = [
-    (0, 6, 6),
-    (1, 0, 0),
-    (2, 24, 6),
-    (3, 6, 6),
-    (4, 0, 6),
-    (5, 6, 6),
-    (8, 24, 6),
-    (16, 24, 6),
-    (32, 24, 6),
-    (33, 6, 6),
-    (64, 6, 6),
-    (4294967295, 6, 6),
+static COUNTS: [(u32, Option<u32>, Option<u32>); 12] = [
+    (0, Some(6), Some(6)),
+    (1, None, None),
+    (2, Some(24), Some(6)),
+    (3, Some(6), Some(6)),
+    (4, None, Some(6)),
+    (5, Some(6), Some(6)),
+    (8, Some(24), Some(6)),
+    (16, Some(24), Some(6)),
+    (32, Some(24), Some(6)),
+    (33, Some(6), Some(6)),
+    (64, Some(6), Some(6)),
+    (u32::MAX, Some(6), Some(6)),
 ];
 
 #[test]
 fn one_and_four(rt: HostRuntime) {
+    let device = Capabilities::DEFAULT;
     for (sample_count, in_2d, elsewhere) in &COUNTS {
         let sample_count = *sample_count;
-        assert_eq!(rt;
-            refusal(
-                &DEVICE,
-                &TextureDescriptor {
-                    sample_count,
-                    ..DRAWN
-                },
-            ),
-            *in_2d
-        );
+        let image = TextureDescriptor {
+            sample_count,
+            ..DRAWN
+        };
+        assert_eq!(rt; refusal(&device, &image), *in_2d, "{sample_count} in 2D");
         let line = TextureDescriptor {
             dimension: TextureDimension::D1,
             sample_count,
             ..SAMPLED
         };
-        assert_eq!(rt; refusal(&DEVICE, &line), *elsewhere);
+        assert_eq!(rt; refusal(&device, &line), *elsewhere, "{sample_count} in 1D");
         let volume = TextureDescriptor {
             dimension: TextureDimension::D3,
             sample_count,
             ..SAMPLED
         };
-        assert_eq!(rt; refusal(&DEVICE, &volume), *elsewhere);
+        assert_eq!(rt;
+            refusal(&device, &volume),
+            *elsewhere,
+            "{sample_count} in 3D"
+        );
     }
 }
 
 #[test]
 fn the_refusal_carries_the_sum_of_the_counts(rt: HostRuntime) -> Result<(), Fail> {
-    let Err(error) = check_texture_descriptor(
-        &DEVICE,
-        &TextureDescriptor {
-            sample_count: 8,
-            ..DRAWN
-        },
-    ) else {
-        return Err(Fail::new("eight samples are accepted"));
+    let desc = TextureDescriptor {
+        sample_count: 8,
+        ..DRAWN
     };
-    let Values::Three(count, format, sum) = error.values() else {
-        return Err(Fail::new("not three values"));
-    };
-    assert_eq!(rt; count, 8);
-    assert_eq!(rt; format, 3);
-    assert_eq!(rt; sum, 5);
-    Ok(())
+    check_refused(
+        &rt,
+        &Capabilities::DEFAULT,
+        &desc,
+        24,
+        Values::Three(8, 3, 5),
+    )
 }

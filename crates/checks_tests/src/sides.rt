@@ -1,7 +1,7 @@
 // Each side against its limit.
-use crate::device::{DEVICE, SAMPLED};
-use crate::refusal;
+use crate::requests::{SAMPLED, refusal};
 use checks::error::TextureErrorDimension as Side;
+use types::capabilities::Capabilities;
 use types::descriptor::TextureDescriptor;
 use types::dimension::TextureDimension;
 use types::extent::Extent3d;
@@ -79,25 +79,36 @@ fn sized(side: Side, length: u32) -> Extent3d {
     }
 }
 
-fn refused_at(limit: &Limit, length: u32) -> u32 {
-    let size = sized(limit.side, length);
-    refusal(
-        &DEVICE,
-        &TextureDescriptor {
-            dimension: limit.dimension,
-            size,
-            ..SAMPLED
-        },
-    )
+fn refused_at(limit: &Limit, length: u32) -> Option<u32> {
+    let desc = TextureDescriptor {
+        dimension: limit.dimension,
+        size: sized(limit.side, length),
+        ..SAMPLED
+    };
+    refusal(&Capabilities::DEFAULT, &desc)
 }
 
 #[test]
 fn each_side_has_its_limit(rt: HostRuntime) {
     for limit in &LIMITS {
-        assert_eq!(rt; refused_at(limit, 0), 4);
-        assert_eq!(rt; refused_at(limit, 1), 0);
-        assert_eq!(rt; refused_at(limit, limit.limit), 0);
-        assert_eq!(rt; refused_at(limit, limit.limit.saturating_add(1)), 5);
-        assert_eq!(rt; refused_at(limit, 4294967295), 5);
+        let side = limit.side;
+        let dimension = limit.dimension;
+        assert_eq!(rt; refused_at(limit, 0), Some(4), "{side:?} in {dimension:?}");
+        assert_eq!(rt; refused_at(limit, 1), None, "{side:?} in {dimension:?}");
+        assert_eq!(rt;
+            refused_at(limit, limit.limit),
+            None,
+            "{side:?} in {dimension:?}"
+        );
+        assert_eq!(rt;
+            refused_at(limit, limit.limit.saturating_add(1)),
+            Some(5),
+            "{side:?} in {dimension:?}"
+        );
+        assert_eq!(rt;
+            refused_at(limit, u32::MAX),
+            Some(5),
+            "{side:?} in {dimension:?}"
+        );
     }
 }

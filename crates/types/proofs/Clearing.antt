@@ -42,5 +42,5 @@ chosen a false false false = (λ p. absurd (false≢true p), λ _. inl (two a))
 pub clearable : (usage : ℕ) (format : TextureFormat) (dimension : TextureDimension) (features : TextureFormatFeatures)
     → Clearable format (texture_uses usage format dimension features)
 clearable usage format dimension features =
-    chosen (host_uses usage (aspects_of format) features.flags) (is_depth_stencil format) (contains usage COPY_DST)
-    (contains features.allowed_usages RENDER_ATTACHMENT && is_2d dimension)
+    chosen (host_uses usage (aspects_of format) features.flags.0) (is_depth_stencil format) (contains usage COPY_DST)
+    (contains features.allowed_usages.0 RENDER_ATTACHMENT && is_2d dimension)

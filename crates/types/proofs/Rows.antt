@@ -46,7 +46,7 @@ part_test f a = maybe (part_of f a) (λ p. eqb (aspects_of p) (aspects_at f a))
 abbrev row_tests : TextureFormat → List Bool
 row_tests f =
     maybe (twin_of f) (λ t. conj (twin_tests f t))
-    ∷ contains WEBGPU_USAGES (row_of f).guaranteed.allowed_usages
+    ∷ contains WEBGPU_USAGES (row_of f).guaranteed.allowed_usages.0
     ∷ part_test f All
     ∷ part_test f DepthOnly
     ∷ part_test f StencilOnly

@@ -1,5 +1,5 @@
 -- Aspects: the parts of a texel, one bit each in a format's row.
-use Rattle.std.specs.Prelude.{ℕ, cond, Some, None, Option, ◌==◌}
+use Rattle.std.specs.Prelude.{ℕ, if◌then◌else◌, Some, None, Option, ◌==◌}
 use Rattle.types.specs.declared.aspect.TextureAspect.{TextureAspect}
 use Rattle.types.specs.declared.aspect.TextureAspect.TheVariants.{All, DepthOnly, StencilOnly, Plane0, Plane1}
 
@@ -23,7 +23,7 @@ abbrev pub COLOURED : ℕ
 COLOURED = 25
 
 abbrev pub plane_aspect : ℕ → Option TextureAspect
-plane_aspect plane = cond (plane == 0) (Some Plane0) (cond (plane == 1) (Some Plane1) None)
+plane_aspect plane = if plane == 0 then Some Plane0 else if plane == 1 then Some Plane1 else None
 
 abbrev pub plane_of : TextureAspect → Option ℕ
 plane_of All = None

@@ -1,5 +1,5 @@
 -- Sets of bits held in a number.
-use Rattle.std.specs.Prelude.{ℕ, Bool, cond, not, ◌==◌, bit_and, bit_xor}
+use Rattle.std.specs.Prelude.{ℕ, Bool, if◌then◌else◌, not, ◌==◌, bit_and, bit_xor}
 
 -- the set holds each of these bits
 abbrev pub contains : ℕ → ℕ → Bool
@@ -15,4 +15,4 @@ difference set bits = bit_xor set (bit_and set bits)
 
 -- `to` where the set holds each bit of `from`, else no bit
 abbrev pub map_bit : ℕ → ℕ → ℕ → ℕ
-map_bit set from to = cond (contains set from) to 0
+map_bit set from to = if contains set from then to else 0

@@ -1,5 +1,5 @@
 -- Optional abilities of a device, one bit each.
-use Rattle.std.specs.Prelude.{ℕ, cond, Ok, Err, Result}
+use Rattle.std.specs.Prelude.{ℕ, if◌then◌else◌, Ok, Err, Result}
 use Rattle.types.specs.Bits.{contains}
 use Rattle.types.specs.declared.features.MissingFeatures.{MissingFeatures}
 
@@ -36,4 +36,4 @@ VIEW_FORMATS = 1
 
 -- nothing is missing where the device has all of these features; else the refusal names them all
 abbrev pub required : ℕ → ℕ → Result Unit MissingFeatures
-required device features = cond (contains device features) (Ok tt) (Err (record { 0 = features }))
+required device features = if contains device features then Ok tt else Err (record { 0 = record { 0 = features } })

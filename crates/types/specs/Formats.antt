@@ -1,5 +1,5 @@
 -- What is read off a format's row.
-use Rattle.std.specs.Prelude.{ℕ, Bool, cond, not, ◌||◌, Some, None, Ok, Err, Option, Result, ◌==◌, bit_and}
+use Rattle.std.specs.Prelude.{ℕ, Bool, if◌then◌else◌, not, ◌||◌, Some, None, Ok, Err, Option, Result, ◌==◌, bit_and}
 use Rattle.types.specs.Aspect.{DEPTH, STENCIL, PLANES, DEPTH_STENCIL, wanted_aspects}
 use Rattle.types.specs.Bits.{contains, intersects}
 use Rattle.types.specs.Features.{BC, ASTC}
@@ -13,7 +13,7 @@ use Rattle.types.specs.declared.format.TextureFormat.TheVariants.{R8Unorm, Rg8Un
 use Rattle.types.specs.declared.format_features.TextureFormatFeatures.{TextureFormatFeatures}
 
 abbrev pub aspects_of : TextureFormat → ℕ
-aspects_of f = (row_of f).aspects
+aspects_of f = (row_of f).aspects.0
 
 -- what a format has of the aspect that is wanted
 abbrev pub selected_aspects : TextureFormat → TextureAspect → ℕ
@@ -23,7 +23,7 @@ abbrev pub twin_of : TextureFormat → Option TextureFormat
 twin_of f = (row_of f).twin
 
 abbrev pub required_features_of : TextureFormat → ℕ
-required_features_of f = (row_of f).required_features
+required_features_of f = (row_of f).required_features.0
 
 -- block width and block height
 abbrev pub block_dimensions : TextureFormat → ℕ × ℕ
@@ -47,26 +47,26 @@ is_planar f = intersects (aspects_of f) PLANES
 
 -- planar formats have two planes
 abbrev pub planes_of : TextureFormat → Option ℕ
-planes_of f = cond (is_planar f) (Some 2) None
+planes_of f = if is_planar f then Some 2 else None
 
 -- two by two for a planar format, else the block
 abbrev pub size_multiple : TextureFormat → ℕ × ℕ
-size_multiple f = cond (is_planar f) (2, 2) (block_dimensions f)
+size_multiple f = if is_planar f then (2, 2) else block_dimensions f
 
 -- a format of depth alone is its own depth part; a combined one has the depth format of its width
 abbrev pub depth_part : TextureFormat → Option TextureFormat
 depth_part f =
-    cond (aspects_of f == DEPTH) (Some f)
-    (cond (same_format f Depth24PlusStencil8) (Some Depth24Plus)
-    (cond (same_format f Depth32FloatStencil8) (Some Depth32Float) None))
+    if aspects_of f == DEPTH then Some f
+    else if same_format f Depth24PlusStencil8 then Some Depth24Plus
+    else if same_format f Depth32FloatStencil8 then Some Depth32Float else None
 
 -- the part of a format at an aspect, itself a format: a planar format has none at "all"
 abbrev pub part_of : TextureFormat → TextureAspect → Option TextureFormat
-part_of f All = cond (is_planar f) None (Some f)
+part_of f All = if is_planar f then None else Some f
 part_of f DepthOnly = depth_part f
-part_of f StencilOnly = cond (contains (aspects_of f) STENCIL) (Some Stencil8) None
-part_of f Plane0 = cond (is_planar f) (Some R8Unorm) None
-part_of f Plane1 = cond (is_planar f) (Some Rg8Unorm) None
+part_of f StencilOnly = if contains (aspects_of f) STENCIL then Some Stencil8 else None
+part_of f Plane0 = if is_planar f then Some R8Unorm else None
+part_of f Plane1 = if is_planar f then Some Rg8Unorm else None
 
 -- what a device with these features may do with a format that it has
 abbrev pub guaranteed_features : TextureFormat → ℕ → TextureFormatFeatures
@@ -75,4 +75,4 @@ guaranteed_features f features = (row_of f).guaranteed
 -- the format's row once the feature that it needs is on, else what is missing
 abbrev pub described_features : ℕ → TextureFormat → Result TextureFormatFeatures MissingFeatures
 described_features features f =
-    cond (contains features (required_features_of f)) (Ok (guaranteed_features f features)) (Err (record { 0 = required_features_of f }))
+    if contains features (required_features_of f) then Ok (guaranteed_features f features) else Err (record { 0 = record { 0 = required_features_of f } })

@@ -29,4 +29,4 @@ pub record RowLaw (f : TextureFormat) : Type 0 where
   -- the part at an aspect is a format that has that aspect and no other
   pub part_aspects : (a : TextureAspect) (p : TextureFormat) → part_of f a ≡ Some p → aspects_of p ≡ aspects_at f a
   -- no row allows a usage that is not WebGPU's
-  pub usages : contains WEBGPU_USAGES (row_of f).guaranteed.allowed_usages ≡ true
+  pub usages : contains WEBGPU_USAGES (row_of f).guaranteed.allowed_usages.0 ≡ true

@@ -1,5 +1,6 @@
 pub mod Aspect
 pub mod Bits
+pub mod Code
 pub mod Dimension
 pub mod Extent
 pub mod Features

@@ -8,12 +8,12 @@ use Rattle.types.specs.declared.format_row.FormatRow.{FormatRow}
 abbrev pub row : ℕ → ℕ → ℕ → Option TextureFormat → ℕ → ℕ → ℕ → FormatRow
 row a w h t n u f =
     record {
-      aspects = a;
+      aspects = record { 0 = a };
       block_width = w;
       block_height = h;
       twin = t;
-      required_features = n;
-      guaranteed = record { allowed_usages = u; flags = f };
+      required_features = record { 0 = n };
+      guaranteed = record { allowed_usages = record { 0 = u }; flags = record { 0 = f } };
     }
 
 abbrev pub row_of : TextureFormat → FormatRow

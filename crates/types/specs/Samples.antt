@@ -1,5 +1,5 @@
 -- Which numbers of samples a format's flags allow: one always, and 2, 4, 8 or 16 by a flag each.
-use Rattle.std.specs.Prelude.{ℕ, ◌+◌, Bool, true, false, cond, ◌==◌}
+use Rattle.std.specs.Prelude.{ℕ, ◌+◌, Bool, true, false, if◌then◌else◌, ◌==◌}
 use Rattle.types.specs.Bits.{contains, map_bit}
 
 -- flags
@@ -30,12 +30,12 @@ READ_WRITE = 64
 
 abbrev pub sample_count_supported : ℕ → ℕ → Bool
 sample_count_supported flags count =
-    cond (count == 1) true
-    (cond (count == 2) (contains flags X2)
-    (cond (count == 4) (contains flags X4)
-    (cond (count == 8) (contains flags X8)
-    (cond (count == 16) (contains flags X16)
-    false))))
+    if count == 1 then true
+    else if count == 2 then contains flags X2
+    else if count == 4 then contains flags X4
+    else if count == 8 then contains flags X8
+    else if count == 16 then contains flags X16
+    else false
 
 -- the sum of the counts that the flags allow, one included
 abbrev pub supported_sample_counts : ℕ → ℕ

@@ -1,5 +1,5 @@
 -- What the host is told that a texture is used for, one bit each.
-use Rattle.std.specs.Prelude.{◌≡◌, ℕ, true, false, cond, ◌&&◌, ◌⊎◌, bit_or}
+use Rattle.std.specs.Prelude.{◌≡◌, ℕ, true, false, if◌then◌else◌, ◌&&◌, ◌⊎◌, bit_or}
 use Rattle.types.specs.Aspect.{COLOURED}
 use Rattle.types.specs.Bits.{contains, intersects, map_bit}
 use Rattle.types.specs.Dimension.{is_2d}
@@ -46,14 +46,13 @@ TRANSIENT = 1024
 -- storage in the ways that the format's flags allow
 abbrev pub storage_uses : ℕ → ℕ → ℕ
 storage_uses usage flags =
-    cond (contains usage STORAGE_BINDING)
-    (bit_or (bit_or (map_bit flags READ_ONLY USE_READ_ONLY) (map_bit flags WRITE_ONLY USE_WRITE_ONLY)) (map_bit flags READ_WRITE USE_READ_WRITE))
-    0
+    if contains usage STORAGE_BINDING then bit_or (bit_or (map_bit flags READ_ONLY USE_READ_ONLY) (map_bit flags WRITE_ONLY USE_WRITE_ONLY)) (map_bit flags READ_WRITE USE_READ_WRITE)
+    else 0
 
 -- rendering by the kind of aspect
 abbrev pub render_uses : ℕ → ℕ → ℕ
 render_uses usage aspects =
-    cond (contains usage RENDER_ATTACHMENT) (cond (intersects aspects COLOURED) COLOR_TARGET (bit_or DEPTH_STENCIL_READ DEPTH_STENCIL_WRITE)) 0
+    if contains usage RENDER_ATTACHMENT then if intersects aspects COLOURED then COLOR_TARGET else bit_or DEPTH_STENCIL_READ DEPTH_STENCIL_WRITE else 0
 
 -- each use that was asked for
 abbrev pub host_uses : ℕ → ℕ → ℕ → ℕ
@@ -71,13 +70,13 @@ host_uses usage aspects flags =
 -- where the format and the dimension have it, else copies all the same
 abbrev pub clearing_use : ℕ → TextureFormat → TextureDimension → ℕ → ℕ
 clearing_use usage format dimension allowed =
-    cond (is_depth_stencil format) DEPTH_STENCIL_WRITE
-    (cond (contains usage COPY_DST) USE_COPY_DST
-    (cond (contains allowed RENDER_ATTACHMENT && is_2d dimension) COLOR_TARGET USE_COPY_DST))
+    if is_depth_stencil format then DEPTH_STENCIL_WRITE
+    else if contains usage COPY_DST then USE_COPY_DST
+    else if contains allowed RENDER_ATTACHMENT && is_2d dimension then COLOR_TARGET else USE_COPY_DST
 
 abbrev pub texture_uses : ℕ → TextureFormat → TextureDimension → TextureFormatFeatures → ℕ
 texture_uses usage format dimension features =
-    bit_or (host_uses usage (aspects_of format) features.flags) (clearing_use usage format dimension features.allowed_usages)
+    bit_or (host_uses usage (aspects_of format) features.flags.0) (clearing_use usage format dimension features.allowed_usages.0)
 
 -- A texture can always be cleared: depth and stencil by writing them, anything else by a copy or by rendering.
 abbrev pub Clearable : TextureFormat → ℕ → Type 0

@@ -2,24 +2,39 @@
 ghost use Rattle.std.specs.Prelude.{◌≡◌};
 ghost use Rattle.types.specs.Aspect.{aspect_code, plane_aspect, plane_of};
 
-// The aspects of a format, one bit each.
-pub struct FormatAspects;
+use crate::bits::BitSet;
+
+// The aspects of a format.
+#[derive(Clone, Copy, Debug, PartialEq, Eq)]
+pub struct FormatAspects(pub u32);
 
 impl FormatAspects {
-    pub const COLOR: u32 = 1;
+    pub const COLOR: Self = Self(1);
 
-    pub const DEPTH: u32 = 2;
+    pub const DEPTH: Self = Self(2);
 
-    pub const STENCIL: u32 = 4;
+    pub const STENCIL: Self = Self(4);
 
-    pub const PLANE_0: u32 = 8;
+    pub const PLANE_0: Self = Self(8);
 
-    pub const PLANE_1: u32 = 16;
+    pub const PLANE_1: Self = Self(16);
 
-    pub const ALL: u32 = 31;
+    pub const ALL: Self = Self(31);
 }
 
-#[derive(Clone, Copy)]
+impl BitSet for FormatAspects {
+    ghost bits_of = { λ aspects. aspects.0 };
+
+    fn from_bits(bits: u32) -> Self {
+        Self(bits)
+    }
+
+    fn bits(self) -> u32 {
+        self.0
+    }
+}
+
+#[derive(Clone, Copy, Debug, PartialEq, Eq)]
 pub enum TextureAspect {
     All,
     StencilOnly,
@@ -48,12 +63,14 @@ impl TextureAspect {
             TextureAspect::All | TextureAspect::StencilOnly | TextureAspect::DepthOnly => None,
         }
     }
+}
 
-    // The number by which a refusal names the aspect.
-    pub fn code(self) -> u32
-        ensures { result ≡ aspect_code self }
-    {
-        match self {
+// The number by which a refusal names the aspect.
+impl From<TextureAspect> for u32 {
+    ghost from_gives = { λ aspect code. code ≡ aspect_code aspect };
+
+    fn from(aspect: TextureAspect) -> u32 {
+        match aspect {
             TextureAspect::All => 1,
             TextureAspect::DepthOnly => 2,
             TextureAspect::StencilOnly => 3,

@@ -1,32 +1,67 @@
-// Sets of bits, the form in which usages, features, flags and aspects are held.
-ghost use Rattle.std.specs.Prelude.{◌≡◌, ◌≤◌};
-ghost use Rattle.types.specs.Bits.{contains as contains_all, intersects as meets, difference as without, map_bit};
+// Sets of flags, one bit each: usages, aspects, features. Each kind is a type of its own, and any bits can stand in a set, also
+// those that no flag has.
+ghost use Rattle.std.specs.Prelude.{◌≡◌, ◌==◌, ◌≤◌, ℕ, bit_and, bit_or};
+ghost use Rattle.types.specs.Bits.{contains, intersects, difference, map_bit};
 
-// Whether the set holds each of these bits.
-pub fn contains(set: u32, bits: u32) -> bool
-    ensures { result ≡ contains_all set bits }
-{
-    set & bits == bits
-}
+// The kinds are tuple structs with an impl of two lines, and not one struct over a parameter: only so can a constant write
+// `TextureUsages(4)`.
+pub trait BitSet: Copy {
+    ghost bits_of: { Self → ℕ };
 
-// Whether the set holds one of these bits at least.
-pub fn intersects(set: u32, bits: u32) -> bool
-    ensures { result ≡ meets set bits }
-{
-    set & bits != 0
-}
+    fn from_bits(bits: u32) -> Self
+        ensures { bits_of result ≡ bits };
 
-// The set without these bits.
-pub fn difference(set: u32, bits: u32) -> u32
-    ensures { result ≡ without set bits }
-{
-    set ^ (set & bits)
-}
+    fn bits(self) -> u32
+        ensures { result ≡ bits_of self };
 
-// `to` where the set holds each bit of `from`, else no bit.
-pub fn map_bit(set: u32, from: u32, to: u32) -> u32
-    ensures value { result ≡ map_bit set from to }
-    ensures bound { result ≤ to }
-{
-    if contains(set, from) { to } else { 0 }
+    final fn is_empty(self) -> bool
+        ensures { result ≡ (bits_of self == 0) }
+    {
+        self.bits() == 0
+    }
+
+    // Whether the set holds each of these flags.
+    final fn contains(self, flags: Self) -> bool
+        ensures { result ≡ contains (bits_of self) (bits_of flags) }
+    {
+        self.bits() & flags.bits() == flags.bits()
+    }
+
+    // Whether the set holds one of these flags at least.
+    final fn intersects(self, flags: Self) -> bool
+        ensures { result ≡ intersects (bits_of self) (bits_of flags) }
+    {
+        self.bits() & flags.bits() != 0
+    }
+
+    final fn union(self, flags: Self) -> Self
+        ensures { bits_of result ≡ bit_or (bits_of self) (bits_of flags) }
+    {
+        Self::from_bits(self.bits() | flags.bits())
+    }
+
+    final fn intersection(self, flags: Self) -> Self
+        ensures { bits_of result ≡ bit_and (bits_of self) (bits_of flags) }
+    {
+        Self::from_bits(self.bits() & flags.bits())
+    }
+
+    // The set without these flags.
+    final fn difference(self, flags: Self) -> Self
+        ensures { bits_of result ≡ difference (bits_of self) (bits_of flags) }
+    {
+        Self::from_bits(self.bits() ^ (self.bits() & flags.bits()))
+    }
+
+    // `to`, flags of another kind, where the set holds each flag of `from`, else none.
+    final fn map_bit<To: BitSet>(self, from: Self, to: To) -> To
+        ensures value { To.bits_of result ≡ map_bit (bits_of self) (bits_of from) (To.bits_of to) }
+        ensures bound { To.bits_of result ≤ To.bits_of to }
+    {
+        if self.contains(from) {
+            to
+        } else {
+            To::from_bits(0)
+        }
+    }
 }

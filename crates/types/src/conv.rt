@@ -6,50 +6,54 @@ ghost use Rattle.types.specs.declared.format.TextureFormat.{TextureFormat};
 ghost use Rattle.types.specs.declared.format_features.TextureFormatFeatures.{TextureFormatFeatures};
 
 use crate::aspect::FormatAspects;
-use crate::bits::{contains, intersects, map_bit};
+use crate::bits::BitSet;
 use crate::descriptor::TextureDescriptor;
 use crate::dimension::TextureDimension;
 use crate::format_features::{TextureFormatFeatureFlags as Flags, TextureFormatFeatures};
 use crate::usages::TextureUsages as Usages;
 use crate::uses::TextureUses as Uses;
 
-pub fn map_texture_usage(usage: u32, aspects: u32, flags: u32) -> u32
-    ensures { result ≡ host_uses usage aspects flags }
+pub fn map_texture_usage(usage: Usages, aspects: FormatAspects, flags: Flags) -> Uses
+    ensures { result.0 ≡ host_uses usage.0 aspects.0 flags.0 }
 {
-    map_bit(usage, Usages::COPY_SRC, Uses::COPY_SRC)
-        | map_bit(usage, Usages::COPY_DST, Uses::COPY_DST)
-        | map_bit(usage, Usages::TEXTURE_BINDING, Uses::RESOURCE)
-        | storage_uses(usage, flags)
-        | render_uses(usage, aspects)
-        | map_bit(usage, Usages::STORAGE_ATOMIC, Uses::STORAGE_ATOMIC)
-        | map_bit(usage, Usages::TRANSIENT_ATTACHMENT, Uses::TRANSIENT)
+    usage
+        .map_bit(Usages::COPY_SRC, Uses::COPY_SRC)
+        .union(usage.map_bit(Usages::COPY_DST, Uses::COPY_DST))
+        .union(usage.map_bit(Usages::TEXTURE_BINDING, Uses::RESOURCE))
+        .union(storage_uses(usage, flags))
+        .union(render_uses(usage, aspects))
+        .union(usage.map_bit(Usages::STORAGE_ATOMIC, Uses::STORAGE_ATOMIC))
+        .union(usage.map_bit(Usages::TRANSIENT_ATTACHMENT, Uses::TRANSIENT))
 }
 
-fn storage_uses(usage: u32, flags: u32) -> u32
-    ensures { result ≡ storage_uses usage flags }
+fn storage_uses(usage: Usages, flags: Flags) -> Uses
+    ensures { result.0 ≡ storage_uses usage.0 flags.0 }
 {
-    if !contains(usage, Usages::STORAGE_BINDING) {
-        return 0;
+    if !usage.contains(Usages::STORAGE_BINDING) {
+        return Uses::NONE;
     }
-    map_bit(flags, Flags::STORAGE_READ_ONLY, Uses::STORAGE_READ_ONLY)
-        | map_bit(flags, Flags::STORAGE_WRITE_ONLY, Uses::STORAGE_WRITE_ONLY)
-        | map_bit(flags, Flags::STORAGE_READ_WRITE, Uses::STORAGE_READ_WRITE)
+    flags
+        .map_bit(Flags::STORAGE_READ_ONLY, Uses::STORAGE_READ_ONLY)
+        .union(flags.map_bit(Flags::STORAGE_WRITE_ONLY, Uses::STORAGE_WRITE_ONLY))
+        .union(flags.map_bit(Flags::STORAGE_READ_WRITE, Uses::STORAGE_READ_WRITE))
 }
 
 // Planes are rendered to as colours are.
-fn render_uses(usage: u32, aspects: u32) -> u32
-    ensures { result ≡ render_uses usage aspects }
+const COLOURED: FormatAspects = FormatAspects(
+    FormatAspects::COLOR.0 | FormatAspects::PLANE_0.0 | FormatAspects::PLANE_1.0,
+);
+
+const DEPTH_STENCIL: Uses = Uses(Uses::DEPTH_STENCIL_READ.0 | Uses::DEPTH_STENCIL_WRITE.0);
+
+fn render_uses(usage: Usages, aspects: FormatAspects) -> Uses
+    ensures { result.0 ≡ render_uses usage.0 aspects.0 }
 {
-    if !contains(usage, Usages::RENDER_ATTACHMENT) {
-        return 0;
-    }
-    if intersects(
-        aspects,
-        FormatAspects::COLOR | FormatAspects::PLANE_0 | FormatAspects::PLANE_1,
-    ) {
+    if !usage.contains(Usages::RENDER_ATTACHMENT) {
+        Uses::NONE
+    } else if aspects.intersects(COLOURED) {
         Uses::COLOR_TARGET
     } else {
-        Uses::DEPTH_STENCIL_READ | Uses::DEPTH_STENCIL_WRITE
+        DEPTH_STENCIL
     }
 }
 
@@ -57,22 +61,22 @@ fn render_uses(usage: u32, aspects: u32) -> u32
 pub fn map_texture_usage_for_texture(
     desc: &TextureDescriptor,
     features: &TextureFormatFeatures,
-) -> u32
-    ensures { result ≡ texture_uses desc.now.usage desc.now.format desc.now.dimension features.now }
+) -> Uses
+    ensures { result.0 ≡ texture_uses desc.now.usage.0 desc.now.format desc.now.dimension features.now }
 {
     let asked = map_texture_usage(desc.usage, desc.format.aspects(), features.flags);
-    asked | clearing_use(desc, features.allowed_usages)
+    asked.union(clearing_use(desc, features.allowed_usages))
 }
 
-fn clearing_use(desc: &TextureDescriptor, allowed_usages: u32) -> u32
-    ensures { result ≡ clearing_use desc.now.usage desc.now.format desc.now.dimension allowed_usages }
+fn clearing_use(desc: &TextureDescriptor, allowed_usages: Usages) -> Uses
+    ensures { result.0 ≡ clearing_use desc.now.usage.0 desc.now.format desc.now.dimension allowed_usages.0 }
 {
     if desc.format.is_depth_stencil_format() {
         Uses::DEPTH_STENCIL_WRITE
-    } else if contains(desc.usage, Usages::COPY_DST) {
+    } else if desc.usage.contains(Usages::COPY_DST) {
         Uses::COPY_DST
-    } else if contains(allowed_usages, Usages::RENDER_ATTACHMENT)
-        && matches!(desc.dimension, TextureDimension::D2)
+    } else if allowed_usages.contains(Usages::RENDER_ATTACHMENT)
+        && desc.dimension == TextureDimension::D2
     {
         Uses::COLOR_TARGET
     } else {
@@ -81,8 +85,6 @@ fn clearing_use(desc: &TextureDescriptor, allowed_usages: u32) -> u32
 }
 
 // A theorem: whatever was asked for, the host is told a use by which the texture can be cleared.
-pub fn textures_can_be_cleared() -> u8
+pub fn textures_can_be_cleared()
     ensures { (usage : ℕ) (format : TextureFormat) (dimension : TextureDimension) (features : TextureFormatFeatures) → Clearable format (texture_uses usage format dimension features) }
-{
-    0
-}
+{}

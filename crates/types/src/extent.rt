@@ -7,7 +7,7 @@ use crate::dimension::TextureDimension;
 // Levels that the host takes at the most.
 pub const MAX_MIP_LEVELS: u32 = 16;
 
-#[derive(Clone, Copy)]
+#[derive(Clone, Copy, Debug, PartialEq, Eq)]
 pub struct Extent3d {
     pub width: u32,
     pub height: u32,

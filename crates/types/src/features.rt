@@ -1,46 +1,54 @@
-// Optional abilities of a device, one bit each.
+// Optional abilities of a device.
 ghost use Rattle.std.specs.Prelude.{◌≡◌};
 ghost use Rattle.types.specs.Features.{required};
 
-use crate::bits;
+use crate::bits::BitSet;
 
-pub struct Features;
+#[derive(Clone, Copy, Debug, PartialEq, Eq)]
+pub struct Features(pub u32);
 
 impl Features {
-    pub const TEXTURE_COMPRESSION_BC: u32 = 1;
+    pub const NONE: Self = Self(0);
 
-    pub const TEXTURE_COMPRESSION_BC_SLICED_3D: u32 = 2;
+    pub const TEXTURE_COMPRESSION_BC: Self = Self(1);
 
-    pub const TEXTURE_COMPRESSION_ETC2: u32 = 4;
+    pub const TEXTURE_COMPRESSION_BC_SLICED_3D: Self = Self(2);
 
-    pub const TEXTURE_COMPRESSION_ASTC: u32 = 8;
+    pub const TEXTURE_COMPRESSION_ETC2: Self = Self(4);
 
-    pub const TEXTURE_COMPRESSION_ASTC_SLICED_3D: u32 = 16;
+    pub const TEXTURE_COMPRESSION_ASTC: Self = Self(8);
 
-    pub const DEPTH32FLOAT_STENCIL8: u32 = 32;
+    pub const TEXTURE_COMPRESSION_ASTC_SLICED_3D: Self = Self(16);
 
-    pub const TEXTURE_FORMAT_NV12: u32 = 64;
+    pub const DEPTH32FLOAT_STENCIL8: Self = Self(32);
 
-    pub const MULTISAMPLE_ARRAY: u32 = 128;
+    pub const TEXTURE_FORMAT_NV12: Self = Self(64);
 
-    pub const MULTIVIEW: u32 = 256;
+    pub const MULTISAMPLE_ARRAY: Self = Self(128);
+
+    pub const MULTIVIEW: Self = Self(256);
 }
 
-// What the host's driver may lack although WebGPU has it, one bit each.
-pub struct DownlevelFlags;
+impl BitSet for Features {
+    ghost bits_of = { λ features. features.0 };
 
-impl DownlevelFlags {
-    pub const VIEW_FORMATS: u32 = 1;
+    fn from_bits(bits: u32) -> Self {
+        Self(bits)
+    }
+
+    fn bits(self) -> u32 {
+        self.0
+    }
 }
 
 // The features that were required and that the device has not all.
-#[derive(Clone, Copy)]
-pub struct MissingFeatures(pub u32);
+#[derive(Clone, Copy, Debug, PartialEq, Eq)]
+pub struct MissingFeatures(pub Features);
 
-pub fn require_features(device: u32, features: u32) -> Result<(), MissingFeatures>
-    ensures { result ≡ required device features }
+pub fn require_features(device: Features, features: Features) -> Result<(), MissingFeatures>
+    ensures { result ≡ required device.0 features.0 }
 {
-    if bits::contains(device, features) {
+    if device.contains(features) {
         Ok(())
     } else {
         Err(MissingFeatures(features))

@@ -4,10 +4,16 @@ ghost use Rattle.types.specs.Formats.{block_dimensions, size_multiple, twin_of, 
 ghost use Rattle.types.specs.declared.aspect.TextureAspect.TheVariants.{StencilOnly};
 
 use crate::aspect::{FormatAspects, TextureAspect};
-use crate::bits;
+use crate::bits::BitSet;
 use crate::features::{Features, MissingFeatures, require_features};
 use crate::format::TextureFormat;
 use crate::format_features::TextureFormatFeatures;
+
+const DEPTH_STENCIL: FormatAspects = FormatAspects(
+    FormatAspects::DEPTH.0 | FormatAspects::STENCIL.0,
+);
+
+const PLANES: FormatAspects = FormatAspects(FormatAspects::PLANE_0.0 | FormatAspects::PLANE_1.0);
 
 impl TextureFormat {
     // Width and height of a block, in texels.
@@ -36,15 +42,15 @@ impl TextureFormat {
         self.row().twin
     }
 
-    pub fn aspects(self) -> u32
-        ensures { result ≡ aspects_of self }
+    pub fn aspects(self) -> FormatAspects
+        ensures { result.0 ≡ aspects_of self }
     {
         self.row().aspects
     }
 
     // The aspects of the format that a view at this aspect selects.
-    pub fn selected_aspects(self, aspect: TextureAspect) -> u32
-        ensures { result ≡ selected_aspects self aspect }
+    pub fn selected_aspects(self, aspect: TextureAspect) -> FormatAspects
+        ensures { result.0 ≡ selected_aspects self aspect }
     {
         let wanted = match aspect {
             TextureAspect::All => FormatAspects::ALL,
@@ -53,11 +59,11 @@ impl TextureFormat {
             TextureAspect::Plane0 => FormatAspects::PLANE_0,
             TextureAspect::Plane1 => FormatAspects::PLANE_1,
         };
-        self.aspects() & wanted
+        self.aspects().intersection(wanted)
     }
 
-    pub fn required_features(self) -> u32
-        ensures { result ≡ required_features_of self }
+    pub fn required_features(self) -> Features
+        ensures { result.0 ≡ required_features_of self }
     {
         self.row().required_features
     }
@@ -93,7 +99,7 @@ impl TextureFormat {
     fn stencil_part(self) -> Option<TextureFormat>
         ensures { result ≡ part_of self StencilOnly }
     {
-        if bits::contains(self.aspects(), FormatAspects::STENCIL) {
+        if self.aspects().contains(FormatAspects::STENCIL) {
             Some(TextureFormat::Stencil8)
         } else {
             None
@@ -103,10 +109,7 @@ impl TextureFormat {
     pub fn is_depth_stencil_format(self) -> bool
         ensures { result ≡ is_depth_stencil self }
     {
-        bits::intersects(
-            self.aspects(),
-            FormatAspects::DEPTH | FormatAspects::STENCIL,
-        )
+        self.aspects().intersects(DEPTH_STENCIL)
     }
 
     pub fn is_compressed(self) -> bool
@@ -116,6 +119,7 @@ impl TextureFormat {
         width != 1 || height != 1
     }
 
+    // The two families have a question each, as in wgpu: what asks knows which one it means.
     pub fn is_bcn(self) -> bool
         ensures { result ≡ is_bcn self }
     {
@@ -132,10 +136,7 @@ impl TextureFormat {
     pub fn is_multi_planar_format(self) -> bool
         ensures { result ≡ is_planar self }
     {
-        bits::intersects(
-            self.aspects(),
-            FormatAspects::PLANE_0 | FormatAspects::PLANE_1,
-        )
+        self.aspects().intersects(PLANES)
     }
 
     // How many planes a planar format has.
@@ -150,8 +151,8 @@ impl TextureFormat {
     }
 
     // What WebGPU guarantees of the format on a device with these features. No row depends on them.
-    pub fn guaranteed_format_features(self, _features: u32) -> TextureFormatFeatures
-        ensures { result ≡ guaranteed_features self _features }
+    pub fn guaranteed_format_features(self, _features: Features) -> TextureFormatFeatures
+        ensures { result ≡ guaranteed_features self _features.0 }
     {
         self.row().guaranteed
     }
@@ -159,10 +160,10 @@ impl TextureFormat {
 
 // What a device with these features may do with the format, or which feature it lacks for that.
 pub fn describe_format_features(
-    device: u32,
+    device: Features,
     format: TextureFormat,
 ) -> Result<TextureFormatFeatures, MissingFeatures>
-    ensures { result ≡ described_features device format }
+    ensures { result ≡ described_features device.0 format }
 {
     require_features(device, format.required_features())?;
     Ok(format.guaranteed_format_features(device))

@@ -12,15 +12,20 @@ use crate::format_row::FormatRow;
 use crate::usages::TextureUsages;
 
 // What every format allows but the planar one; what can be an attachment besides; what can be storage too.
-const BASIC: u32 = TextureUsages::COPY_SRC
-    | TextureUsages::COPY_DST
-    | TextureUsages::TEXTURE_BINDING;
+const BASIC: TextureUsages = TextureUsages(
+    TextureUsages::COPY_SRC.0 | TextureUsages::COPY_DST.0 | TextureUsages::TEXTURE_BINDING.0,
+);
 
-const ATTACHMENT: u32 = BASIC
-    | TextureUsages::RENDER_ATTACHMENT
-    | TextureUsages::TRANSIENT_ATTACHMENT;
+const ATTACHMENT: TextureUsages = TextureUsages(
+    BASIC.0 | TextureUsages::RENDER_ATTACHMENT.0 | TextureUsages::TRANSIENT_ATTACHMENT.0,
+);
 
-const STORAGE: u32 = ATTACHMENT | TextureUsages::STORAGE_BINDING;
+const STORAGE: TextureUsages = TextureUsages(ATTACHMENT.0 | TextureUsages::STORAGE_BINDING.0);
+
+// Storage that a shader either reads or writes, and storage that it can do both with.
+const ONE_ACCESS: Flags = Flags(Flags::STORAGE_READ_ONLY.0 | Flags::STORAGE_WRITE_ONLY.0);
+
+const ANY_ACCESS: Flags = Flags(ONE_ACCESS.0 | Flags::STORAGE_READ_WRITE.0);
 
 const FORMATS: [FormatRow; 22] = [
     // R8Unorm
@@ -29,7 +34,7 @@ const FORMATS: [FormatRow; 22] = [
         block_width: 1,
         block_height: 1,
         twin: None,
-        required_features: 0,
+        required_features: Features::NONE,
         guaranteed: TextureFormatFeatures {
             allowed_usages: ATTACHMENT,
             flags: Flags::MULTISAMPLE_X4,
@@ -41,7 +46,7 @@ const FORMATS: [FormatRow; 22] = [
         block_width: 1,
         block_height: 1,
         twin: None,
-        required_features: 0,
+        required_features: Features::NONE,
         guaranteed: TextureFormatFeatures {
             allowed_usages: ATTACHMENT,
             flags: Flags::MULTISAMPLE_X4,
@@ -53,10 +58,10 @@ const FORMATS: [FormatRow; 22] = [
         block_width: 1,
         block_height: 1,
         twin: Some(TextureFormat::Rgba8UnormSrgb),
-        required_features: 0,
+        required_features: Features::NONE,
         guaranteed: TextureFormatFeatures {
             allowed_usages: STORAGE,
-            flags: Flags::MULTISAMPLE_X4 | Flags::STORAGE_READ_ONLY | Flags::STORAGE_WRITE_ONLY,
+            flags: Flags(Flags::MULTISAMPLE_X4.0 | ONE_ACCESS.0),
         },
     },
     // Rgba8UnormSrgb
@@ -65,7 +70,7 @@ const FORMATS: [FormatRow; 22] = [
         block_width: 1,
         block_height: 1,
         twin: Some(TextureFormat::Rgba8Unorm),
-        required_features: 0,
+        required_features: Features::NONE,
         guaranteed: TextureFormatFeatures {
             allowed_usages: ATTACHMENT,
             flags: Flags::MULTISAMPLE_X4,
@@ -77,7 +82,7 @@ const FORMATS: [FormatRow; 22] = [
         block_width: 1,
         block_height: 1,
         twin: Some(TextureFormat::Bgra8UnormSrgb),
-        required_features: 0,
+        required_features: Features::NONE,
         guaranteed: TextureFormatFeatures {
             allowed_usages: ATTACHMENT,
             flags: Flags::MULTISAMPLE_X4,
@@ -89,7 +94,7 @@ const FORMATS: [FormatRow; 22] = [
         block_width: 1,
         block_height: 1,
         twin: Some(TextureFormat::Bgra8Unorm),
-        required_features: 0,
+        required_features: Features::NONE,
         guaranteed: TextureFormatFeatures {
             allowed_usages: ATTACHMENT,
             flags: Flags::MULTISAMPLE_X4,
@@ -101,10 +106,10 @@ const FORMATS: [FormatRow; 22] = [
         block_width: 1,
         block_height: 1,
         twin: None,
-        required_features: 0,
+        required_features: Features::NONE,
         guaranteed: TextureFormatFeatures {
             allowed_usages: STORAGE,
-            flags: Flags::STORAGE_READ_ONLY | Flags::STORAGE_WRITE_ONLY | Flags::STORAGE_READ_WRITE,
+            flags: ANY_ACCESS,
         },
     },
     // R32Float
@@ -113,13 +118,10 @@ const FORMATS: [FormatRow; 22] = [
         block_width: 1,
         block_height: 1,
         twin: None,
-        required_features: 0,
+        required_features: Features::NONE,
         guaranteed: TextureFormatFeatures {
             allowed_usages: STORAGE,
-            flags: Flags::MULTISAMPLE_X4
-                | Flags::STORAGE_READ_ONLY
-                | Flags::STORAGE_WRITE_ONLY
-                | Flags::STORAGE_READ_WRITE,
+            flags: Flags(Flags::MULTISAMPLE_X4.0 | ANY_ACCESS.0),
         },
     },
     // Rgba16Float
@@ -128,10 +130,10 @@ const FORMATS: [FormatRow; 22] = [
         block_width: 1,
         block_height: 1,
         twin: None,
-        required_features: 0,
+        required_features: Features::NONE,
         guaranteed: TextureFormatFeatures {
             allowed_usages: STORAGE,
-            flags: Flags::MULTISAMPLE_X4 | Flags::STORAGE_READ_ONLY | Flags::STORAGE_WRITE_ONLY,
+            flags: Flags(Flags::MULTISAMPLE_X4.0 | ONE_ACCESS.0),
         },
     },
     // Rgba32Float
@@ -140,10 +142,10 @@ const FORMATS: [FormatRow; 22] = [
         block_width: 1,
         block_height: 1,
         twin: None,
-        required_features: 0,
+        required_features: Features::NONE,
         guaranteed: TextureFormatFeatures {
             allowed_usages: STORAGE,
-            flags: Flags::STORAGE_READ_ONLY | Flags::STORAGE_WRITE_ONLY,
+            flags: ONE_ACCESS,
         },
     },
     // Depth16Unorm
@@ -152,7 +154,7 @@ const FORMATS: [FormatRow; 22] = [
         block_width: 1,
         block_height: 1,
         twin: None,
-        required_features: 0,
+        required_features: Features::NONE,
         guaranteed: TextureFormatFeatures {
             allowed_usages: ATTACHMENT,
             flags: Flags::MULTISAMPLE_X4,
@@ -164,7 +166,7 @@ const FORMATS: [FormatRow; 22] = [
         block_width: 1,
         block_height: 1,
         twin: None,
-        required_features: 0,
+        required_features: Features::NONE,
         guaranteed: TextureFormatFeatures {
             allowed_usages: ATTACHMENT,
             flags: Flags::MULTISAMPLE_X4,
@@ -176,7 +178,7 @@ const FORMATS: [FormatRow; 22] = [
         block_width: 1,
         block_height: 1,
         twin: None,
-        required_features: 0,
+        required_features: Features::NONE,
         guaranteed: TextureFormatFeatures {
             allowed_usages: ATTACHMENT,
             flags: Flags::MULTISAMPLE_X4,
@@ -188,7 +190,7 @@ const FORMATS: [FormatRow; 22] = [
         block_width: 1,
         block_height: 1,
         twin: None,
-        required_features: 0,
+        required_features: Features::NONE,
         guaranteed: TextureFormatFeatures {
             allowed_usages: ATTACHMENT,
             flags: Flags::MULTISAMPLE_X4,
@@ -196,11 +198,11 @@ const FORMATS: [FormatRow; 22] = [
     },
     // Depth24PlusStencil8
     FormatRow {
-        aspects: FormatAspects::DEPTH | FormatAspects::STENCIL,
+        aspects: FormatAspects(FormatAspects::DEPTH.0 | FormatAspects::STENCIL.0),
         block_width: 1,
         block_height: 1,
         twin: None,
-        required_features: 0,
+        required_features: Features::NONE,
         guaranteed: TextureFormatFeatures {
             allowed_usages: ATTACHMENT,
             flags: Flags::MULTISAMPLE_X4,
@@ -208,7 +210,7 @@ const FORMATS: [FormatRow; 22] = [
     },
     // Depth32FloatStencil8
     FormatRow {
-        aspects: FormatAspects::DEPTH | FormatAspects::STENCIL,
+        aspects: FormatAspects(FormatAspects::DEPTH.0 | FormatAspects::STENCIL.0),
         block_width: 1,
         block_height: 1,
         twin: None,
@@ -227,7 +229,7 @@ const FORMATS: [FormatRow; 22] = [
         required_features: Features::TEXTURE_COMPRESSION_BC,
         guaranteed: TextureFormatFeatures {
             allowed_usages: BASIC,
-            flags: 0,
+            flags: Flags::NONE,
         },
     },
     // Bc1RgbaUnormSrgb
@@ -239,7 +241,7 @@ const FORMATS: [FormatRow; 22] = [
         required_features: Features::TEXTURE_COMPRESSION_BC,
         guaranteed: TextureFormatFeatures {
             allowed_usages: BASIC,
-            flags: 0,
+            flags: Flags::NONE,
         },
     },
     // EacR11Unorm
@@ -251,7 +253,7 @@ const FORMATS: [FormatRow; 22] = [
         required_features: Features::TEXTURE_COMPRESSION_ETC2,
         guaranteed: TextureFormatFeatures {
             allowed_usages: BASIC,
-            flags: 0,
+            flags: Flags::NONE,
         },
     },
     // Astc8x5Unorm
@@ -263,7 +265,7 @@ const FORMATS: [FormatRow; 22] = [
         required_features: Features::TEXTURE_COMPRESSION_ASTC,
         guaranteed: TextureFormatFeatures {
             allowed_usages: BASIC,
-            flags: 0,
+            flags: Flags::NONE,
         },
     },
     // Astc8x5UnormSrgb
@@ -275,34 +277,33 @@ const FORMATS: [FormatRow; 22] = [
         required_features: Features::TEXTURE_COMPRESSION_ASTC,
         guaranteed: TextureFormatFeatures {
             allowed_usages: BASIC,
-            flags: 0,
+            flags: Flags::NONE,
         },
     },
     // NV12
     FormatRow {
-        aspects: FormatAspects::PLANE_0 | FormatAspects::PLANE_1,
+        aspects: FormatAspects(FormatAspects::PLANE_0.0 | FormatAspects::PLANE_1.0),
         block_width: 1,
         block_height: 1,
         twin: None,
         required_features: Features::TEXTURE_FORMAT_NV12,
         guaranteed: TextureFormatFeatures {
             allowed_usages: TextureUsages::TEXTURE_BINDING,
-            flags: 0,
+            flags: Flags::NONE,
         },
     },
 ];
 
+// One table, and not a constant for each row with a `match` over them, which would name each format a third time.
 impl TextureFormat {
     pub fn row(self) -> &'static FormatRow
         ensures { result.now ≡ row_of self }
     {
-        &FORMATS[self.code() as usize - 1]
+        &FORMATS[u32::from(self) as usize - 1]
     }
 }
 
 // A theorem: what holds of every row.
-pub fn rows_agree() -> u8
+pub fn rows_agree()
     ensures { (format : TextureFormat) → RowLaw format }
-{
-    0
-}
+{}

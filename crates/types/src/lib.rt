@@ -5,9 +5,12 @@
 pub mod aspect;
 pub mod bits;
 pub mod capabilities;
+pub mod code;
 pub mod conv;
 pub mod descriptor;
 pub mod dimension;
+mod display;
+pub mod downlevel_flags;
 pub mod extent;
 pub mod features;
 pub mod format;

@@ -23,7 +23,7 @@ impl Texture {
     {
         let width = level_side(self.size.width, mip_level);
         let height = level_side(self.size.height, mip_level);
-        if matches!(plane, Some(1)) {
+        if plane == Some(1) {
             Extent3d {
                 width: width / 2,
                 height: height / 2,

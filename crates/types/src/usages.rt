@@ -1,21 +1,35 @@
-// What a container may ask to use a texture for, one bit each.
+// What a container may ask to use a texture for.
+use crate::bits::BitSet;
 
-pub struct TextureUsages;
+#[derive(Clone, Copy, Debug, PartialEq, Eq)]
+pub struct TextureUsages(pub u32);
 
 impl TextureUsages {
-    pub const COPY_SRC: u32 = 1;
+    pub const COPY_SRC: Self = Self(1);
 
-    pub const COPY_DST: u32 = 2;
+    pub const COPY_DST: Self = Self(2);
 
-    pub const TEXTURE_BINDING: u32 = 4;
+    pub const TEXTURE_BINDING: Self = Self(4);
 
-    pub const STORAGE_BINDING: u32 = 8;
+    pub const STORAGE_BINDING: Self = Self(8);
 
-    pub const RENDER_ATTACHMENT: u32 = 16;
+    pub const RENDER_ATTACHMENT: Self = Self(16);
 
-    pub const TRANSIENT_ATTACHMENT: u32 = 32;
+    pub const TRANSIENT_ATTACHMENT: Self = Self(32);
 
-    pub const STORAGE_ATOMIC: u32 = 64;
+    pub const STORAGE_ATOMIC: Self = Self(64);
 
-    pub const ALL: u32 = 127;
+    pub const ALL: Self = Self(127);
+}
+
+impl BitSet for TextureUsages {
+    ghost bits_of = { λ usages. usages.0 };
+
+    fn from_bits(bits: u32) -> Self {
+        Self(bits)
+    }
+
+    fn bits(self) -> u32 {
+        self.0
+    }
 }

@@ -1,29 +1,45 @@
-// What the host is told that a texture is used for, one bit each. The numbers are the broker's own.
+// What the host is told that a texture is used for. The numbers are the broker's own.
+use crate::bits::BitSet;
 
-pub struct TextureUses;
+#[derive(Clone, Copy, Debug, PartialEq, Eq)]
+pub struct TextureUses(pub u32);
 
 impl TextureUses {
-    pub const COPY_SRC: u32 = 1;
+    pub const NONE: Self = Self(0);
 
-    pub const COPY_DST: u32 = 2;
+    pub const COPY_SRC: Self = Self(1);
 
-    pub const RESOURCE: u32 = 4;
+    pub const COPY_DST: Self = Self(2);
 
-    pub const COLOR_TARGET: u32 = 8;
+    pub const RESOURCE: Self = Self(4);
 
-    pub const DEPTH_STENCIL_READ: u32 = 16;
+    pub const COLOR_TARGET: Self = Self(8);
 
-    pub const DEPTH_STENCIL_WRITE: u32 = 32;
+    pub const DEPTH_STENCIL_READ: Self = Self(16);
 
-    pub const STORAGE_READ_ONLY: u32 = 64;
+    pub const DEPTH_STENCIL_WRITE: Self = Self(32);
 
-    pub const STORAGE_WRITE_ONLY: u32 = 128;
+    pub const STORAGE_READ_ONLY: Self = Self(64);
 
-    pub const STORAGE_READ_WRITE: u32 = 256;
+    pub const STORAGE_WRITE_ONLY: Self = Self(128);
 
-    pub const STORAGE_ATOMIC: u32 = 512;
+    pub const STORAGE_READ_WRITE: Self = Self(256);
 
-    pub const TRANSIENT: u32 = 1024;
+    pub const STORAGE_ATOMIC: Self = Self(512);
 
-    pub const ALL: u32 = 2047;
+    pub const TRANSIENT: Self = Self(1024);
+
+    pub const ALL: Self = Self(2047);
+}
+
+impl BitSet for TextureUses {
+    ghost bits_of = { λ uses. uses.0 };
+
+    fn from_bits(bits: u32) -> Self {
+        Self(bits)
+    }
+
+    fn bits(self) -> u32 {
+        self.0
+    }
 }

@@ -25,29 +25,29 @@ module _ (device : Capabilities) (t : Texture) (d : TextureViewDescriptor) where
   abbrev Promised : Result TextureView CreateTextureViewError → Type 0
   Promised r =
       record {
-        value : as_outcome r ≡ outcome (view_checks device.features t (resolved t d));
-        view : IfOk r (λ view. WorkedOut device.features t (resolved t d) view);
-        only : IfOk r (λ view. OnlyView device.features t (resolved t d) view);
-        webgpu : contains device.features MULTISAMPLE_ARRAY ≡ false → Decides (not (refused_as_view r)) (Accepts device t (resolved t d));
-        laws : IfOk r (λ view. Lawful device.features t view);
+        value : as_outcome r ≡ outcome (view_checks device.features.0 t (resolved t d));
+        view : IfOk r (λ view. WorkedOut device.features.0 t (resolved t d) view);
+        only : IfOk r (λ view. OnlyView device.features.0 t (resolved t d) view);
+        webgpu : contains device.features.0 MULTISAMPLE_ARRAY ≡ false → Decides (not (refused_as_view r)) (Accepts device t (resolved t d));
+        laws : IfOk r (λ view. Lawful device.features.0 t view);
       }
 
   laws : (r : Result TextureView CreateTextureViewError)
-      → as_outcome r ≡ outcome (view_checks device.features t (resolved t d))
-      → IfOk r (λ view. WorkedOut device.features t (resolved t d) view)
-      → IfOk r (λ view. Lawful device.features t view)
-  laws (Ok view) value worked = lawful device.features t d view (all_pass (view_checks device.features t (resolved t d)) value) worked
+      → as_outcome r ≡ outcome (view_checks device.features.0 t (resolved t d))
+      → IfOk r (λ view. WorkedOut device.features.0 t (resolved t d) view)
+      → IfOk r (λ view. Lawful device.features.0 t view)
+  laws (Ok view) value worked = lawful device.features.0 t d view (all_pass (view_checks device.features.0 t (resolved t d)) value) worked
   laws (Err e) value worked = tt
 
   one_view : (r : Result TextureView CreateTextureViewError)
-      → IfOk r (λ view. WorkedOut device.features t (resolved t d) view)
-      → IfOk r (λ view. OnlyView device.features t (resolved t d) view)
-  one_view (Ok view) worked = only device.features t (resolved t d) view worked
+      → IfOk r (λ view. WorkedOut device.features.0 t (resolved t d) view)
+      → IfOk r (λ view. OnlyView device.features.0 t (resolved t d) view)
+  one_view (Ok view) worked = only device.features.0 t (resolved t d) view worked
   one_view (Err e) worked = tt
 
   promised : (r : Result TextureView CreateTextureViewError)
-      → as_outcome r ≡ outcome (view_checks device.features t (resolved t d))
-      → IfOk r (λ view. WorkedOut device.features t (resolved t d) view)
+      → as_outcome r ≡ outcome (view_checks device.features.0 t (resolved t d))
+      → IfOk r (λ view. WorkedOut device.features.0 t (resolved t d) view)
       → Promised r
   promised r value view =
       record {
@@ -61,16 +61,16 @@ module _ (device : Capabilities) (t : Texture) (d : TextureViewDescriptor) where
   module _ (v : ResolvedView) (filled : v ≡ resolved t d) where
     -- the exit of a `?`: a group of the checks refuses
     pub refused : (r : Result TextureView CreateTextureViewError) (group rest : List (Check CreateTextureViewError)) (e : CreateTextureViewError)
-        → IsErrAnd r (λ y. y ≡ e) → Err e ≡ outcome group → outcome (group ++ rest) ≡ outcome (view_checks device.features t v) → Promised r
+        → IsErrAnd r (λ y. y ≡ e) → Err e ≡ outcome group → outcome (group ++ rest) ≡ outcome (view_checks device.features.0 t v) → Promised r
     refused r group rest e left h past =
         promised r
-        (subst (λ (w : ResolvedView). as_outcome r ≡ outcome (view_checks device.features t w)) filled
-        (exits (view_checks device.features t v) r e left (stops group rest e h ∙ past)))
-        (unmade r e left (λ view. WorkedOut device.features t (resolved t d) view))
+        (subst (λ (w : ResolvedView). as_outcome r ≡ outcome (view_checks device.features.0 t w)) filled
+        (exits (view_checks device.features.0 t v) r e left (stops group rest e h ∙ past)))
+        (unmade r e left (λ view. WorkedOut device.features.0 t (resolved t d) view))
 
     -- the end: every group passed
-    pub accepted : (view : TextureView) → Ok tt ≡ outcome (view_checks device.features t v) → WorkedOut device.features t v view → Promised (Ok view)
+    pub accepted : (view : TextureView) → Ok tt ≡ outcome (view_checks device.features.0 t v) → WorkedOut device.features.0 t v view → Promised (Ok view)
     accepted view h worked =
         promised (Ok view)
-        (subst (λ (w : ResolvedView). Ok tt ≡ outcome (view_checks device.features t w)) filled h)
-        (subst (λ (w : ResolvedView). WorkedOut device.features t w view) filled worked)
+        (subst (λ (w : ResolvedView). Ok tt ≡ outcome (view_checks device.features.0 t w)) filled h)
+        (subst (λ (w : ResolvedView). WorkedOut device.features.0 t w view) filled worked)

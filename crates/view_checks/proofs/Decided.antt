@@ -37,11 +37,11 @@ numbered (TooManyMipLevels a b c) = refl
 numbered ZeroArrayLayerCount = refl
 numbered (TooManyArrayLayers a b c) = refl
 
-module _ (device : Capabilities) (t : Texture) (v : ResolvedView) (no_arrays : contains device.features MULTISAMPLE_ARRAY ≡ false) where
-  pub decided : (r : Result TextureView CreateTextureViewError) → as_outcome r ≡ outcome (view_checks device.features t v)
+module _ (device : Capabilities) (t : Texture) (v : ResolvedView) (no_arrays : contains device.features.0 MULTISAMPLE_ARRAY ≡ false) where
+  pub decided : (r : Result TextureView CreateTextureViewError) → as_outcome r ≡ outcome (view_checks device.features.0 t v)
       → Decides (not (refused_as_view r)) (Accepts device t v)
-  decided (Ok view) h = (λ _. accepts device t v no_arrays (all_pass (view_checks device.features t v) h), λ _. refl)
+  decided (Ok view) h = (λ _. accepts device t v no_arrays (all_pass (view_checks device.features.0 t v) h), λ _. refl)
   decided (Err e) h = (
     λ p. absurd (false≢true (sym (ap not (numbered e)) ∙ p)),
-    λ a. absurd (ok_not_err (from_all (view_checks device.features t v) (checks_pass device t v no_arrays a) ∙ sym h)),
+    λ a. absurd (ok_not_err (from_all (view_checks device.features.0 t v) (checks_pass device t v no_arrays a) ∙ sym h)),
   )

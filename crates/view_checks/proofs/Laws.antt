@@ -18,6 +18,7 @@ use Rattle.types.specs.declared.features.MissingFeatures.{MissingFeatures}
 use Rattle.types.specs.declared.format.TextureFormat.{TextureFormat}
 use Rattle.types.specs.declared.format_features.TextureFormatFeatures.{TextureFormatFeatures}
 use Rattle.types.specs.declared.texture.Texture.{Texture}
+use Rattle.types.specs.declared.usages.TextureUsages.{TextureUsages}
 use Rattle.types.specs.declared.view.TextureView.{TextureView}
 use Rattle.types.specs.declared.view_descriptor.TextureViewDescriptor.{TextureViewDescriptor}
 use Rattle.view_checks.proofs.Groups.{ability_passes, dimension_passes, layers_pass, usage_passes}
@@ -29,12 +30,12 @@ use Rattle.view_checks.specs.Views.{ALL_USES, BOUND, BOUND_OR_STORED, NOT_COPIED
 use Rattle.view_checks.specs.declared.resolve.ResolvedView.{ResolvedView}
 
 -- a usage that was filled in is empty only where the texture's is
-chosen : (b : Bool) (own usage : ℕ) → eqb usage 0 ≡ b → 0 < own → 0 < cond b own usage
+chosen : (b : Bool) (own usage : TextureUsages) → eqb usage.0 0 ≡ b → 0 < own.0 → 0 < (cond b own usage).0
 chosen true own usage e h = h
-chosen false own usage e h = positive usage e
+chosen false own usage e h = positive usage.0 e
 
-used : (own : ℕ) (usage : Option ℕ) → 0 < own → 0 < filled_usage own usage
-used own (Some usage) h = chosen (eqb usage 0) own usage refl h
+used : (own : TextureUsages) (usage : Option TextureUsages) → 0 < own.0 → 0 < (filled_usage own usage).0
+used own (Some usage) h = chosen (eqb usage.0 0) own usage refl h
 used own None h = h
 
 -- a format whose feature is on is described by its row
@@ -45,7 +46,7 @@ described b row m h = ap (λ (x : Bool). cond x (Ok row) (Err m)) h
 module _ (features : ℕ) (f : TextureFormat) (usage : ℕ) where
   allows : contains features (required_features_of f) ≡ true → contains (allowed_usages_of features f) usage ≡ true → Allows features f usage
   allows on h =
-      (guaranteed_features f features, described (contains features (required_features_of f)) (guaranteed_features f features) (record { 0 = required_features_of f }) on, h)
+      (guaranteed_features f features, described (contains features (required_features_of f)) (guaranteed_features f features) (record { 0 = record { 0 = required_features_of f } }) on, h)
 
 -- six layers a cube
 whole : (n : ℕ) → 0 < n → n % 6 ≡ 0 → (cubes : ℕ) × (0 < cubes) × (n ≡ 6 * cubes)
@@ -70,13 +71,13 @@ module _ (features : ℕ) (t : Texture) (d : TextureViewDescriptor) where
     able = ability_passes features t v h
 
     -- a usage that is checked against the format's row is allowed by it
-    allowed : (usage : ℕ) → (contains v.usage usage && not (contains (allowed_usages_of features v.format) usage)) ≡ false
-        → contains view.usage usage ≡ true → Allows features view.format usage
+    allowed : (usage : ℕ) → (contains v.usage.0 usage && not (contains (allowed_usages_of features v.format) usage)) ≡ false
+        → contains view.usage.0 usage ≡ true → Allows features view.format usage
     allowed usage passed has =
         subst (λ (f : TextureFormat). Allows features f usage) (sym w.format)
         (allows features v.format usage (not-false _ able.0)
-        (must (contains v.usage usage) (contains (allowed_usages_of features v.format) usage) passed
-        (subst (λ (u : ℕ). contains u usage ≡ true) w.usage has)))
+        (must (contains v.usage.0 usage) (contains (allowed_usages_of features v.format) usage) passed
+        (subst (λ (u : TextureUsages). contains u.0 usage ≡ true) w.usage has)))
 
     cubes : Cubic v.dimension → (k : ℕ) × (0 < k) × (count ≡ 6 * k)
     cubes (inl e) =
@@ -96,7 +97,7 @@ module _ (features : ℕ) (t : Texture) (d : TextureViewDescriptor) where
     -- ---- the host's usages, cut three times
 
     abbrev asked : ℕ
-    asked = host_uses v.usage (aspects_of v.format) (guaranteed_features v.format features).flags
+    asked = host_uses v.usage.0 (aspects_of v.format) (guaranteed_features v.format features).flags.0
 
     abbrev uncopied : ℕ
     uncopied = bit_and asked NOT_COPIED
@@ -108,7 +109,7 @@ module _ (features : ℕ) (t : Texture) (d : TextureViewDescriptor) where
     kept = bit_and shaped (level_uses v.mip_level_count)
 
     -- what holds of the uses worked out holds of those that the view has
-    told : (P : ℕ → Type 0) → P kept → P view.hal_usage
+    told : (P : ℕ → Type 0) → P kept → P view.hal_usage.0
     told P h = subst P (sym w.hal_usage) h
 
     -- the masks of the dimension and of the levels
@@ -149,15 +150,15 @@ module _ (features : ℕ) (t : Texture) (d : TextureViewDescriptor) where
         record {
           levels_inside = subst (λ (n : ℕ). view.mips.end ≤ n) w.mips.of_total view.mips.inside;
           layers_inside = subst (λ (n : ℕ). view.layers.end ≤ n) w.layers.of_total view.layers.inside;
-          usage_within = subst (λ (u : ℕ). contains t.usage u ≡ true) (sym w.usage) (not-false (contains t.usage v.usage) (usage_passes features t v h).1.0);
-          usage_not_empty = λ some. subst (λ (u : ℕ). 0 < u) (sym w.usage) (used t.usage d.usage some);
+          usage_within = subst (λ (u : TextureUsages). contains t.usage.0 u.0 ≡ true) (sym w.usage) (not-false (contains t.usage.0 v.usage.0) (usage_passes features t v h).1.0);
+          usage_not_empty = λ some. subst (λ (u : TextureUsages). 0 < u.0) (sym w.usage) (used t.usage d.usage some);
           rendering = allowed RENDER_ATTACHMENT able.1.0;
           storage = allowed STORAGE_BINDING able.1.1.0;
           one_level = λ extent e. omega (arith, w.mips.starts, w.mips.ends, one extent e);
           square_faces = λ c. eqb-true _ _ (must (is_cube v.dimension || is_cube_array v.dimension) (eqb t.size.width t.size.height) shape.1.1.1.1.1.0 (cubic v.dimension (subst Cubic w.dimension c)));
           whole_cubes = λ c. (let k = cubes (subst Cubic w.dimension c) in (k.0, k.1, omega (arith, w.layers.starts, w.layers.ends, k.2)));
           host_uses_asked =
-              subst₂ (λ (u : ℕ) (f : TextureFormat). contains (host_uses u (aspects_of f) (guaranteed_features f features).flags) view.hal_usage ≡ true) (sym w.usage) (sym w.format)
+              subst₂ (λ (u : TextureUsages) (f : TextureFormat). contains (host_uses u.0 (aspects_of f) (guaranteed_features f features).flags.0) view.hal_usage.0 ≡ true) (sym w.usage) (sym w.format)
               (told (λ n. contains asked n ≡ true) in_asked);
           host_copies_nothing = told (λ n. intersects n COPIES ≡ false) not_copied;
           host_binds_cubes = λ c. told (λ n. contains BOUND n ≡ true) (by_dimension BOUND (cube_uses v.dimension (subst Cubic w.dimension c)));

@@ -21,9 +21,9 @@ module _ (features : ℕ) (t : Texture) (v : ResolvedView) (view : TextureView) 
     mips = one_range _ _ _ other.mips view.mips o.mips w.mips i;
     layers = one_range _ _ _ other.layers view.layers o.layers w.layers i;
     aspect = (o.aspect ∙ sym w.aspect) i;
-    aspects = (o.aspects ∙ sym w.aspects) i;
+    aspects = record { 0 = (o.aspects ∙ sym w.aspects) i };
     samples = (o.samples ∙ sym w.samples) i;
     hal_format = (o.hal_format ∙ sym w.hal_format) i;
-    hal_usage = (o.hal_usage ∙ sym w.hal_usage) i;
+    hal_usage = record { 0 = (o.hal_usage ∙ sym w.hal_usage) i };
     render_extent = (o.render_extent ∙ sym w.render_extent) i;
   }

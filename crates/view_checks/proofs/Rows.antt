@@ -17,10 +17,10 @@ abbrev some : TextureFormat → TextureAspect → Bool
 some f aspect = not (eqb (selected_aspects f aspect) 0)
 
 abbrev stored : TextureFormat → Bool
-stored f = contains (row_of f).guaranteed.allowed_usages STORAGE_BINDING
+stored f = contains (row_of f).guaranteed.allowed_usages.0 STORAGE_BINDING
 
 abbrev accessed : TextureFormat → Bool
-accessed f = intersects (row_of f).guaranteed.flags 112
+accessed f = intersects (row_of f).guaranteed.flags.0 112
 
 -- storage is allowed where there is a way of access; an aspect that the format has is selected
 abbrev row_tests : TextureFormat → List Bool
@@ -42,10 +42,10 @@ module _ (f : TextureFormat) where
   row : (k : ℕ) → k < 11 → get_or (row_tests f) k true ≡ true
   row k h = nth (row_tests f) (each (λ g. conj (row_tests g)) refl f) k h
 
-  pub storable : contains (row_of f).guaranteed.allowed_usages STORAGE_BINDING ≡ true → intersects (row_of f).guaranteed.flags 112 ≡ true
+  pub storable : contains (row_of f).guaranteed.allowed_usages.0 STORAGE_BINDING ≡ true → intersects (row_of f).guaranteed.flags.0 112 ≡ true
   storable = modus (stored f) (accessed f) (row 0 (lit< tt))
 
-  pub storage_allowed : intersects (row_of f).guaranteed.flags 112 ≡ true → contains (row_of f).guaranteed.allowed_usages STORAGE_BINDING ≡ true
+  pub storage_allowed : intersects (row_of f).guaranteed.flags.0 112 ≡ true → contains (row_of f).guaranteed.allowed_usages.0 STORAGE_BINDING ≡ true
   storage_allowed = modus (accessed f) (stored f) (row 1 (lit< tt))
 
   pub present : (aspect : TextureAspect) → eqb (selected_aspects f aspect) 0 ≡ false → Present f aspect

@@ -8,6 +8,7 @@ use Rattle.types.proofs.SameRange.{same_range}
 use Rattle.types.specs.Aspect.{wanted_aspects}
 use Rattle.types.specs.Bits.{contains, map_bit}
 use Rattle.types.specs.Formats.{aspects_of}
+use Rattle.types.specs.declared.aspect.FormatAspects.{FormatAspects}
 use Rattle.types.specs.declared.aspect.TextureAspect.{TextureAspect}
 use Rattle.types.specs.declared.aspect.TextureAspect.TheVariants.{All, DepthOnly, StencilOnly, Plane0, Plane1}
 use Rattle.types.specs.declared.range.Range.{Range}
@@ -49,6 +50,10 @@ module _ (a b : ℕ) (few_a : a < 32) (few_b : b < 32) (to : (aspect : Aspect) �
       in
       gathers a few_a ∙ g ∙ sym (gathers b few_b)
 
+-- a set is known by its bits
+pub same_aspects : (a b : FormatAspects) → a.0 ≡ b.0 → a ≡ b
+same_aspects a b h = λ i. record { 0 = h i }
+
 -- a set of some bits holds one of them
 abbrev lowest : ℕ → Aspect
 lowest set =
@@ -75,24 +80,24 @@ module _ (features : ℕ) (t : Texture) (view : TextureView) (of : ViewOf featur
   wanted_few Plane0 = lit≤ tt
   wanted_few Plane1 = lit≤ tt
 
-  few : view.aspects < 32
+  few : view.aspects.0 < 32
   few =
       let v = resolved t of.0 in
       omega (arith, of.2.aspects, and_le_r (aspects_of t.format) (wanted_aspects v.aspect), wanted_few v.aspect)
 
-  some : eqb view.aspects 0 ≡ false
+  some : eqb view.aspects.0 0 ≡ false
   some =
       let v = resolved t of.0 in
       subst (λ (n : ℕ). eqb n 0 ≡ false) (sym of.2.aspects) (aspect_passes features t v (all_pass (view_checks features t v) of.1)).0
 
   abbrev own : Aspect
-  own = lowest view.aspects
+  own = lowest view.aspects.0
 
-  held : Holds view.aspects own
-  held = holds_lowest view.aspects few some
+  held : Holds view.aspects.0 own
+  held = holds_lowest view.aspects.0 few some
 
 -- the lowest and the highest that a view selects
-module _ (view : TextureView) (aspect : Aspect) (h : Holds view.aspects aspect) where
+module _ (view : TextureView) (aspect : Aspect) (h : Holds view.aspects.0 aspect) where
   at_first : Selects view view.mips.first view.layers.first aspect
   at_first =
       record {
@@ -123,14 +128,14 @@ module _ (a b : TextureView) where
       level_before = subst (λ (r : Range). level < r.end) e.levels s.level_before;
       layer_from = subst (λ (r : Range). r.first ≤ layer) e.layers s.layer_from;
       layer_before = subst (λ (r : Range). layer < r.end) e.layers s.layer_before;
-      aspect_in = subst (λ (n : ℕ). Holds n aspect) e.aspects s.aspect_in;
+      aspect_in = subst (λ (set : FormatAspects). Holds set.0 aspect) e.aspects s.aspect_in;
     },
     λ s. record {
       level_from = subst (λ (r : Range). r.first ≤ level) (sym e.levels) s.level_from;
       level_before = subst (λ (r : Range). level < r.end) (sym e.levels) s.level_before;
       layer_from = subst (λ (r : Range). r.first ≤ layer) (sym e.layers) s.layer_from;
       layer_before = subst (λ (r : Range). layer < r.end) (sym e.layers) s.layer_before;
-      aspect_in = subst (λ (n : ℕ). Holds n aspect) (sym e.aspects) s.aspect_in;
+      aspect_in = subst (λ (set : FormatAspects). Holds set.0 aspect) (sym e.aspects) s.aspect_in;
     },
   )
 
@@ -157,9 +162,9 @@ module _ (a b : TextureView) where
               (omega (arith, layers_a, layers_b, last_a.layer_before, last_b.layer_before))
               (of_a.2.layers.of_total ∙ sym of_b.2.layers.of_total);
           aspects =
-              same_set a.aspects b.aspects (few features t a of_a) (few others t b of_b)
+              same_aspects a.aspects b.aspects (same_set a.aspects.0 b.aspects.0 (few features t a of_a) (few others t b of_b)
               (λ aspect h. ((same a.mips.first a.layers.first aspect).0 (at_first a aspect h)).aspect_in)
-              (λ aspect h. ((same b.mips.first b.layers.first aspect).1 (at_first b aspect h)).aspect_in);
+              (λ aspect h. ((same b.mips.first b.layers.first aspect).1 (at_first b aspect h)).aspect_in));
         }
 
     pub triples_decided : (r : Bool) → Decides r (SameParts a b) → Decides r (SameTriples a b)

@@ -157,59 +157,59 @@ sides_pass D3 size h = refl
 
 -- ---- both ways
 
-module _ (device : Capabilities) (t : Texture) (v : ResolvedView) (no_arrays : contains device.features MULTISAMPLE_ARRAY ≡ false) where
+module _ (device : Capabilities) (t : Texture) (v : ResolvedView) (no_arrays : contains device.features.0 MULTISAMPLE_ARRAY ≡ false) where
   abbrev allowed : ℕ
-  allowed = (row_of v.format).guaranteed.allowed_usages
+  allowed = (row_of v.format).guaranteed.allowed_usages.0
 
-  pub accepts : Each Passes (view_checks device.features t v) → Accepts device t v
+  pub accepts : Each Passes (view_checks device.features.0 t v) → Accepts device t v
   accepts h =
-      let part = not-false (contains t.usage v.usage) (usage_passes device.features t v h).1.0 in
-      let ability = ability_passes device.features t v h in
-      let aspect = aspect_passes device.features t v h in
-      let dimensions = dimension_passes device.features t v h in
-      let levels = levels_pass device.features t v h in
-      let layers = layers_pass device.features t v h in
+      let part = not-false (contains t.usage.0 v.usage.0) (usage_passes device.features.0 t v h).1.0 in
+      let ability = ability_passes device.features.0 t v h in
+      let aspect = aspect_passes device.features.0 t v h in
+      let dimensions = dimension_passes device.features.0 t v h in
+      let levels = levels_pass device.features.0 t v h in
+      let layers = layers_pass device.features.0 t v h in
       record {
         format_enabled = not-false _ ability.0;
         aspect_present = present t.format v.aspect aspect.0;
         format_for_aspect = format_for t v.format v.aspect (not-false _ aspect.1.0);
         usage_within = part;
-        transient_usage = λ passing. eqb-true _ _ (transient (contains t.usage v.usage) (contains t.usage TRANSIENT_ATTACHMENT) (eqb v.usage t.usage) (usage_passes device.features t v h).0 part passing);
-        rendering = must (contains v.usage RENDER_ATTACHMENT) (contains allowed RENDER_ATTACHMENT) ability.1.0;
-        storage = λ s. storable v.format (must (contains v.usage STORAGE_BINDING) (contains allowed STORAGE_BINDING) ability.1.1.0 s);
+        transient_usage = λ passing. eqb-true _ _ (transient (contains t.usage.0 v.usage.0) (contains t.usage.0 TRANSIENT_ATTACHMENT) (eqb v.usage.0 t.usage.0) (usage_passes device.features.0 t v h).0 part passing);
+        rendering = must (contains v.usage.0 RENDER_ATTACHMENT) (contains allowed RENDER_ATTACHMENT) ability.1.0;
+        storage = λ s. storable v.format (must (contains v.usage.0 STORAGE_BINDING) (contains allowed STORAGE_BINDING) ability.1.1.0 s);
         levels_positive = positive _ levels.0;
         levels_within = ltb-false _ _ levels.1.0;
         layers_positive = positive _ layers.0;
         layers_within = ltb-false _ _ layers.1.0;
-        one_image_if_multisampled = λ several. one_image device.features no_arrays v.dimension
-            (must (ltb 1 t.sample_count) (can_be_multisampled device.features v.dimension) dimensions.0 (lt-ltb _ _ several));
+        one_image_if_multisampled = λ several. one_image device.features.0 no_arrays v.dimension
+            (must (ltb 1 t.sample_count) (can_be_multisampled device.features.0 v.dimension) dimensions.0 (lt-ltb _ _ several));
         dimension = views v.dimension t.dimension (not-false _ dimensions.1.0);
         layers = counts_from v.dimension v.array_layer_count (dimensions.1.1.0, dimensions.1.1.1.0, dimensions.1.1.1.1.0);
         sides = sides_from v.dimension t.size dimensions.1.1.1.1.1.0;
       }
 
-  multisampled_pass : Accepts device t v → 1 < t.sample_count → can_be_multisampled device.features v.dimension ≡ true
+  multisampled_pass : Accepts device t v → 1 < t.sample_count → can_be_multisampled device.features.0 v.dimension ≡ true
   multisampled_pass a several =
-      subst (λ (dim : TextureViewDimension). can_be_multisampled device.features dim ≡ true) (sym (a.one_image_if_multisampled several)) refl
+      subst (λ (dim : TextureViewDimension). can_be_multisampled device.features.0 dim ≡ true) (sym (a.one_image_if_multisampled several)) refl
 
-  pub checks_pass : Accepts device t v → Each Passes (view_checks device.features t v)
+  pub checks_pass : Accepts device t v → Each Passes (view_checks device.features.0 t v)
   checks_pass a =
       let counts = counts_pass v.dimension v.array_layer_count a.layers in (
-        transient_from (contains t.usage v.usage) (contains t.usage TRANSIENT_ATTACHMENT) (eqb v.usage t.usage) (λ passing. eq-eqb _ _ (a.transient_usage passing)),
+        transient_from (contains t.usage.0 v.usage.0) (contains t.usage.0 TRANSIENT_ATTACHMENT) (eqb v.usage.0 t.usage.0) (λ passing. eq-eqb _ _ (a.transient_usage passing)),
         (
           not_from_true _ a.usage_within,
           (
             not_from_true _ a.format_enabled,
             (
-              must_from (contains v.usage RENDER_ATTACHMENT) (contains allowed RENDER_ATTACHMENT) a.rendering,
+              must_from (contains v.usage.0 RENDER_ATTACHMENT) (contains allowed RENDER_ATTACHMENT) a.rendering,
               (
-                must_from (contains v.usage STORAGE_BINDING) (contains allowed STORAGE_BINDING) (λ s. storage_allowed v.format (a.storage s)),
+                must_from (contains v.usage.0 STORAGE_BINDING) (contains allowed STORAGE_BINDING) (λ s. storage_allowed v.format (a.storage s)),
                 (
                   selected t.format v.aspect a.aspect_present,
                   (
                     not_from_true _ (format_fits_lem t v.format v.aspect a.format_for_aspect),
                     (
-                      must_from (ltb 1 t.sample_count) (can_be_multisampled device.features v.dimension) (λ several. multisampled_pass a (ltb-true _ _ several)),
+                      must_from (ltb 1 t.sample_count) (can_be_multisampled device.features.0 v.dimension) (λ several. multisampled_pass a (ltb-true _ _ several)),
                       (
                         not_from_true _ (viewed v.dimension t.dimension a.dimension),
                         (

@@ -16,29 +16,30 @@ use Rattle.types.specs.declared.dimension.TextureViewDimension.{TextureViewDimen
 use Rattle.types.specs.declared.dimension.TextureViewDimension.TheVariants.{D1, D2, D2Array, Cube, CubeArray, D3}
 use Rattle.types.specs.declared.format.TextureFormat.{TextureFormat}
 use Rattle.types.specs.declared.texture.Texture.{Texture}
+use Rattle.types.specs.declared.usages.TextureUsages.{TextureUsages}
 use Rattle.view_checks.specs.declared.error.CreateTextureViewError.{CreateTextureViewError}
 use Rattle.view_checks.specs.declared.error.CreateTextureViewError.TheVariants.{InvalidTransientTextureViewUsage, InvalidTextureViewUsage, MissingFeatures, TextureViewFormatNotRenderable, TextureViewFormatNotStorage, InvalidAspect, FormatReinterpretation, InvalidMultisampledTextureViewDimension, InvalidTextureViewDimension, InvalidArrayLayerCount, InvalidCubemapTextureDepth, InvalidCubemapArrayTextureDepth, InvalidCubeTextureViewSize, ZeroMipLevelCount, TooManyMipLevels, ZeroArrayLayerCount, TooManyArrayLayers}
 use Rattle.view_checks.specs.declared.resolve.ResolvedView.{ResolvedView}
 
 -- ---- 33, 34: the usage: all of a transient attachment's, a part of any other texture's
 
-abbrev pub usage_checks : ℕ → ℕ → List (Check CreateTextureViewError)
+abbrev pub usage_checks : TextureUsages → TextureUsages → List (Check CreateTextureViewError)
 usage_checks texture view =
-    refuse (contains texture view && (contains texture TRANSIENT_ATTACHMENT && not (view == texture))) (InvalidTransientTextureViewUsage texture view)
-    ∷ refuse (not (contains texture view)) (InvalidTextureViewUsage view texture)
+    refuse (contains texture.0 view.0 && (contains texture.0 TRANSIENT_ATTACHMENT && not (view.0 == texture.0))) (InvalidTransientTextureViewUsage texture view)
+    ∷ refuse (not (contains texture.0 view.0)) (InvalidTextureViewUsage view texture)
     ∷ []
 
 -- ---- 12, 35, 36: the format against the device and the usage
 
 abbrev pub allowed_usages_of : ℕ → TextureFormat → ℕ
-allowed_usages_of features f = (guaranteed_features f features).allowed_usages
+allowed_usages_of features f = (guaranteed_features f features).allowed_usages.0
 
 abbrev pub ability_checks : ℕ → ResolvedView → List (Check CreateTextureViewError)
 ability_checks features v =
-    refuse (not (contains features (required_features_of v.format))) (MissingFeatures (record { 0 = required_features_of v.format }))
-    ∷ refuse (contains v.usage RENDER_ATTACHMENT && not (contains (allowed_usages_of features v.format) RENDER_ATTACHMENT))
+    refuse (not (contains features (required_features_of v.format))) (MissingFeatures (record { 0 = record { 0 = required_features_of v.format } }))
+    ∷ refuse (contains v.usage.0 RENDER_ATTACHMENT && not (contains (allowed_usages_of features v.format) RENDER_ATTACHMENT))
     (TextureViewFormatNotRenderable v.format)
-    ∷ refuse (contains v.usage STORAGE_BINDING && not (contains (allowed_usages_of features v.format) STORAGE_BINDING))
+    ∷ refuse (contains v.usage.0 STORAGE_BINDING && not (contains (allowed_usages_of features v.format) STORAGE_BINDING))
     (TextureViewFormatNotStorage v.format)
     ∷ []
 
@@ -115,19 +116,19 @@ dimension_checks features t v =
 
 -- ---- 45 to 48: levels and layers: some, and no more than the texture has. The ends are true sums.
 
+-- so many from the first on, of a total
+abbrev pub range_checks : ℕ → ℕ → ℕ → CreateTextureViewError → CreateTextureViewError → List (Check CreateTextureViewError)
+range_checks first count total none too_many = refuse (count == 0) none ∷ refuse (nat_lt total (first + count)) too_many ∷ []
+
 abbrev pub level_checks : Texture → ResolvedView → List (Check CreateTextureViewError)
 level_checks t v =
-    refuse (v.mip_level_count == 0) ZeroMipLevelCount
-    ∷ refuse (nat_lt t.mip_level_count (v.base_mip_level + v.mip_level_count))
+    range_checks v.base_mip_level v.mip_level_count t.mip_level_count ZeroMipLevelCount
     (TooManyMipLevels v.base_mip_level v.mip_level_count t.mip_level_count)
-    ∷ []
 
 abbrev pub layer_checks : Texture → ResolvedView → List (Check CreateTextureViewError)
 layer_checks t v =
-    refuse (v.array_layer_count == 0) ZeroArrayLayerCount
-    ∷ refuse (nat_lt (layers_of t) (v.base_array_layer + v.array_layer_count))
+    range_checks v.base_array_layer v.array_layer_count (layers_of t) ZeroArrayLayerCount
     (TooManyArrayLayers v.base_array_layer v.array_layer_count (layers_of t))
-    ∷ []
 
 -- ---- all of them
 

@@ -26,9 +26,9 @@ number_of ZeroArrayLayerCount = 47
 number_of (TooManyArrayLayers first count total) = 48
 
 abbrev pub values_of : CreateTextureViewError → List ℕ
-values_of (MissingFeatures missing) = missing.0 ∷ []
-values_of (InvalidTransientTextureViewUsage texture view) = texture ∷ view ∷ []
-values_of (InvalidTextureViewUsage view texture) = view ∷ texture ∷ []
+values_of (MissingFeatures missing) = missing.0.0 ∷ []
+values_of (InvalidTransientTextureViewUsage texture view) = texture.0 ∷ view.0 ∷ []
+values_of (InvalidTextureViewUsage view texture) = view.0 ∷ texture.0 ∷ []
 values_of (TextureViewFormatNotRenderable format) = code_of format ∷ []
 values_of (TextureViewFormatNotStorage format) = code_of format ∷ []
 values_of (InvalidAspect format aspect) = code_of format ∷ aspect_code aspect ∷ []

@@ -1,5 +1,5 @@
 -- The omitted fields of a view request, filled in from the texture.
-use Rattle.std.specs.Prelude.{ℕ, ◌-◌, cond, Some, None, Option, ◌==◌}
+use Rattle.std.specs.Prelude.{ℕ, ◌-◌, if◌then◌else◌, Some, None, Option, ◌==◌}
 use Rattle.std.specs.Option.{unwrap_or}
 use Rattle.types.specs.Formats.{part_of}
 use Rattle.types.specs.Textures.{layers_of}
@@ -10,6 +10,7 @@ use Rattle.types.specs.declared.dimension.TextureViewDimension.{TextureViewDimen
 use Rattle.types.specs.declared.dimension.TextureViewDimension.TheVariants.{D1, D2, D2Array, Cube, CubeArray, D3}
 use Rattle.types.specs.declared.format.TextureFormat.{TextureFormat}
 use Rattle.types.specs.declared.texture.Texture.{Texture}
+use Rattle.types.specs.declared.usages.TextureUsages.{TextureUsages}
 use Rattle.types.specs.declared.view_descriptor.TextureViewDescriptor.{TextureViewDescriptor}
 use Rattle.view_checks.specs.declared.resolve.ResolvedView.{ResolvedView}
 
@@ -21,7 +22,7 @@ filled_format f aspect None = unwrap_or (part_of f aspect) f
 -- a texture of one layer is viewed in its own dimension, one of several as an array
 abbrev pub own_dimension : TextureDimension → ℕ → TextureViewDimension
 own_dimension Texture1D layers = D1
-own_dimension Texture2D layers = cond (layers == 1) D2 D2Array
+own_dimension Texture2D layers = if layers == 1 then D2 else D2Array
 own_dimension Texture3D layers = D3
 
 abbrev pub filled_dimension : Texture → Option TextureViewDimension → TextureViewDimension
@@ -29,8 +30,8 @@ filled_dimension t (Some dimension) = dimension
 filled_dimension t None = own_dimension t.dimension (layers_of t)
 
 -- omitted or empty: the texture's
-abbrev pub filled_usage : ℕ → Option ℕ → ℕ
-filled_usage own (Some usage) = cond (usage == 0) own usage
+abbrev pub filled_usage : TextureUsages → Option TextureUsages → TextureUsages
+filled_usage own (Some usage) = if usage.0 == 0 then own else usage
 filled_usage own None = own
 
 -- every level from the first one on: none where that lies past the last

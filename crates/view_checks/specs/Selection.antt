@@ -29,7 +29,7 @@ pub record Selects (view : TextureView) (level layer : ℕ) (aspect : Aspect) : 
   pub level_before : level < view.mips.end
   pub layer_from : view.layers.first ≤ layer
   pub layer_before : layer < view.layers.end
-  pub aspect_in : contains view.aspects (bit_of aspect) ≡ true
+  pub aspect_in : contains view.aspects.0 (bit_of aspect) ≡ true
 
 abbrev pub SameTriples : TextureView → TextureView → Type 0
 SameTriples a b =

@@ -1,5 +1,5 @@
 -- The view that an accepted request is worked out to.
-use Rattle.std.specs.Prelude.{◌≡◌, ℕ, Bool, true, false, cond, not, ◌&&◌, ◌||◌, List, [], ◌∷◌, ◌==◌, bit_and}
+use Rattle.std.specs.Prelude.{◌≡◌, ℕ, Bool, true, false, if◌then◌else◌, not, ◌&&◌, ◌||◌, List, [], ◌∷◌, ◌==◌, bit_and}
 use Rattle.checks.specs.Check.{Check, answered, refuse}
 use Rattle.checks.specs.Checks.{is_this}
 use Rattle.types.specs.Aspect.{plane_of}
@@ -25,7 +25,7 @@ use Rattle.view_checks.specs.declared.resolve.ResolvedView.{ResolvedView}
 
 -- depth and stencil go by the whole format that they are a part of, anything else by its own
 abbrev pub host_format : TextureFormat → TextureFormat → TextureFormat
-host_format texture view = cond (is_this (part_of texture DepthOnly) view || is_this (part_of texture StencilOnly) view) texture view
+host_format texture view = if is_this (part_of texture DepthOnly) view || is_this (part_of texture StencilOnly) view then texture else view
 
 -- every host usage
 abbrev pub ALL_USES : ℕ
@@ -54,12 +54,12 @@ dimension_uses D3 = BOUND_OR_STORED
 
 -- several levels are only bound
 abbrev pub level_uses : ℕ → ℕ
-level_uses levels = cond (levels == 1) ALL_USES BOUND
+level_uses levels = if levels == 1 then ALL_USES else BOUND
 
 -- what was asked for, as far as such a view can be used so
 abbrev pub view_uses : ResolvedView → ℕ → ℕ
 view_uses v flags =
-    bit_and (bit_and (bit_and (host_uses v.usage (aspects_of v.format) flags) NOT_COPIED) (dimension_uses v.dimension)) (level_uses v.mip_level_count)
+    bit_and (bit_and (bit_and (host_uses v.usage.0 (aspects_of v.format) flags) NOT_COPIED) (dimension_uses v.dimension)) (level_uses v.mip_level_count)
 
 -- ---- rendering
 
@@ -74,12 +74,12 @@ can_be_rendered D3 = true
 -- why a view cannot be rendered to, the first reason first
 abbrev pub render_checks : ℕ → Texture → ResolvedView → List (Check TextureViewNotRenderableReason)
 render_checks features t v =
-    refuse (not (contains v.usage RENDER_ATTACHMENT)) (Usage v.usage)
+    refuse (not (contains v.usage.0 RENDER_ATTACHMENT)) (Usage v.usage)
     ∷ refuse (not (can_be_rendered v.dimension)) (Dimension v.dimension)
     ∷ refuse (not (v.mip_level_count == 1)) (MipLevelCount v.mip_level_count)
     ∷ refuse (not (v.array_layer_count == 1) && not (contains features MULTIVIEW)) (ArrayLayerCount v.array_layer_count)
     ∷ refuse (not (is_planar t.format) && not (selected_aspects t.format v.aspect == aspects_of t.format))
-    (Aspects (selected_aspects t.format v.aspect))
+    (Aspects (record { 0 = selected_aspects t.format v.aspect }))
     ∷ []
 
 -- the size of the first level that is viewed
@@ -95,10 +95,10 @@ pub record WorkedOut (features : ℕ) (t : Texture) (v : ResolvedView) (view : T
   pub mips : Spans v.base_mip_level v.mip_level_count t.mip_level_count view.mips
   pub layers : Spans v.base_array_layer v.array_layer_count (layers_of t) view.layers
   pub aspect : view.aspect ≡ v.aspect
-  pub aspects : view.aspects ≡ selected_aspects t.format v.aspect
+  pub aspects : view.aspects.0 ≡ selected_aspects t.format v.aspect
   pub samples : view.samples ≡ t.sample_count
   pub hal_format : view.hal_format ≡ host_format t.format v.format
-  pub hal_usage : view.hal_usage ≡ view_uses v (guaranteed_features v.format features).flags
+  pub hal_usage : view.hal_usage.0 ≡ view_uses v (guaranteed_features v.format features).flags.0
   pub render_extent : view.render_extent ≡ answered (render_checks features t v) (extent_of t v)
 
 -- these lines leave no other view

@@ -69,10 +69,10 @@ pub record Accepts (device : Capabilities) (t : Texture) (v : ResolvedView) : Ty
   pub format_enabled : Enabled device v.format
   pub aspect_present : Present t.format v.aspect
   pub format_for_aspect : FormatFor t v.aspect v.format
-  pub usage_within : contains t.usage v.usage ≡ true
-  pub transient_usage : contains t.usage TRANSIENT_ATTACHMENT ≡ true → v.usage ≡ t.usage
-  pub rendering : contains v.usage RENDER_ATTACHMENT ≡ true → Renderable device v.format
-  pub storage : contains v.usage STORAGE_BINDING ≡ true → Storable device v.format
+  pub usage_within : contains t.usage.0 v.usage.0 ≡ true
+  pub transient_usage : contains t.usage.0 TRANSIENT_ATTACHMENT ≡ true → v.usage.0 ≡ t.usage.0
+  pub rendering : contains v.usage.0 RENDER_ATTACHMENT ≡ true → Renderable device v.format
+  pub storage : contains v.usage.0 STORAGE_BINDING ≡ true → Storable device v.format
   pub levels_positive : 0 < v.mip_level_count
   pub levels_within : v.base_mip_level + v.mip_level_count ≤ t.mip_level_count
   pub layers_positive : 0 < v.array_layer_count

@@ -5,26 +5,26 @@ ghost use Rattle.view_checks.specs.Checks.{can_be_multisampled, dimension_checks
 
 use crate::error::CreateTextureViewError;
 use crate::resolve::ResolvedView;
-use types::bits;
+use types::bits::BitSet;
 use types::dimension::TextureViewDimension;
 use types::features::Features;
 use types::texture::Texture;
 
 pub(crate) fn check_dimension(
-    features: u32,
+    features: Features,
     texture: &Texture,
     view: &ResolvedView,
 ) -> Result<(), CreateTextureViewError>
-    ensures { result ≡ outcome (dimension_checks features texture.now view.now) }
+    ensures { result ≡ outcome (dimension_checks features.0 texture.now view.now) }
 {
     let dim = view.dimension;
     let layers = view.array_layer_count;
-    let is_cube = matches!(dim, TextureViewDimension::Cube);
-    let is_cube_array = matches!(dim, TextureViewDimension::CubeArray);
+    let is_cube = dim == TextureViewDimension::Cube;
+    let is_cube_array = dim == TextureViewDimension::CubeArray;
     if texture.sample_count > 1 && !can_be_multisampled(features, dim) {
         return Err(CreateTextureViewError::InvalidMultisampledTextureViewDimension(dim));
     }
-    if texture.dimension.code() != dim.compatible_texture_dimension().code() {
+    if texture.dimension != dim.compatible_texture_dimension() {
         return Err(CreateTextureViewError::InvalidTextureViewDimension {
             view: dim,
             texture: texture.dimension,
@@ -49,12 +49,12 @@ pub(crate) fn check_dimension(
 }
 
 // A texture of several samples is viewed as one image, or as an array where the device has such textures.
-fn can_be_multisampled(features: u32, dim: TextureViewDimension) -> bool
-    ensures { result ≡ can_be_multisampled features dim }
+fn can_be_multisampled(features: Features, dim: TextureViewDimension) -> bool
+    ensures { result ≡ can_be_multisampled features.0 dim }
 {
     match dim {
         TextureViewDimension::D2 => true,
-        TextureViewDimension::D2Array => bits::contains(features, Features::MULTISAMPLE_ARRAY),
+        TextureViewDimension::D2Array => features.contains(Features::MULTISAMPLE_ARRAY),
         _ => false,
     }
 }

@@ -6,16 +6,17 @@ use types::aspect::TextureAspect;
 use types::dimension::{TextureDimension, TextureViewDimension};
 use types::features::MissingFeatures;
 use types::format::TextureFormat;
+use types::usages::TextureUsages;
 
-#[derive(Clone, Copy)]
+#[derive(Clone, Copy, Debug, PartialEq, Eq)]
 pub enum CreateTextureViewError {
     InvalidTransientTextureViewUsage {
-        texture: u32,
-        view: u32,
+        texture: TextureUsages,
+        view: TextureUsages,
     },
     InvalidTextureViewUsage {
-        view: u32,
-        texture: u32,
+        view: TextureUsages,
+        texture: TextureUsages,
     },
     MissingFeatures(MissingFeatures),
     TextureViewFormatNotRenderable(TextureFormat),

@@ -1,14 +1,14 @@
 // The format of a view against the device, and its aspect and format against the texture.
 ghost use Rattle.std.specs.Prelude.{◌≡◌};
 ghost use Rattle.checks.specs.Check.{answered, outcome};
-ghost use Rattle.checks.specs.Checks.{is_this};
 ghost use Rattle.types.specs.Formats.{guaranteed_features};
 ghost use Rattle.view_checks.specs.Checks.{ability_checks, aspect_checks, format_fits};
 
 use crate::error::CreateTextureViewError;
 use crate::resolve::ResolvedView;
 use types::aspect::TextureAspect;
-use types::bits;
+use types::bits::BitSet;
+use types::features::Features;
 use types::format::TextureFormat;
 use types::format_features::TextureFormatFeatures;
 use types::format_info::describe_format_features;
@@ -17,20 +17,20 @@ use types::usages::TextureUsages;
 
 // What the device may do with the view's format, if that is what the view is used for.
 pub(crate) fn check_ability(
-    features: u32,
+    features: Features,
     view: &ResolvedView,
 ) -> Result<TextureFormatFeatures, CreateTextureViewError>
-    ensures { result ≡ answered (ability_checks features view.now) (guaranteed_features view.now.format features) }
+    ensures { result ≡ answered (ability_checks features.0 view.now) (guaranteed_features view.now.format features.0) }
 {
     let format_features = describe_format_features(features, view.format)?;
     let allowed = format_features.allowed_usages;
-    if bits::contains(view.usage, TextureUsages::RENDER_ATTACHMENT)
-        && !bits::contains(allowed, TextureUsages::RENDER_ATTACHMENT)
+    if view.usage.contains(TextureUsages::RENDER_ATTACHMENT)
+        && !allowed.contains(TextureUsages::RENDER_ATTACHMENT)
     {
         return Err(CreateTextureViewError::TextureViewFormatNotRenderable(view.format));
     }
-    if bits::contains(view.usage, TextureUsages::STORAGE_BINDING)
-        && !bits::contains(allowed, TextureUsages::STORAGE_BINDING)
+    if view.usage.contains(TextureUsages::STORAGE_BINDING)
+        && !allowed.contains(TextureUsages::STORAGE_BINDING)
     {
         return Err(CreateTextureViewError::TextureViewFormatNotStorage(view.format));
     }
@@ -43,7 +43,7 @@ pub(crate) fn check_aspect(
 ) -> Result<(), CreateTextureViewError>
     ensures { result ≡ outcome (aspect_checks texture.now view.now) }
 {
-    if texture.format.selected_aspects(view.aspect) == 0 {
+    if texture.format.selected_aspects(view.aspect).is_empty() {
         return Err(CreateTextureViewError::InvalidAspect {
             texture_format: texture.format,
             requested_aspect: view.aspect,
@@ -59,21 +59,13 @@ pub(crate) fn check_aspect(
 }
 
 // All aspects are viewed in the texture's format or in its twin, if that was listed; one aspect in its part of the format.
+#[tactic(auto, using(types::proofs::SameFormat::same_tags))]
 fn format_is_good(texture: &Texture, aspect: TextureAspect, format: TextureFormat) -> bool
     ensures { result ≡ format_fits texture.now aspect format }
 {
-    if matches!(aspect, TextureAspect::All) {
-        format == texture.format || (texture.twin_listed && is_this(texture.format.twin(), format))
+    if aspect == TextureAspect::All {
+        format == texture.format || (texture.twin_listed && texture.format.twin() == Some(format))
     } else {
-        is_this(texture.format.aspect_specific_format(aspect), format)
-    }
-}
-
-pub(crate) fn is_this(found: Option<TextureFormat>, format: TextureFormat) -> bool
-    ensures { result ≡ is_this found format }
-{
-    match found {
-        Some(found) => found == format,
-        None => false,
+        texture.format.aspect_specific_format(aspect) == Some(format)
     }
 }

@@ -1,15 +1,16 @@
 // What the container is told of a refused view: a number, and the values that the error carries.
-ghost use Rattle.std.specs.Prelude.{◌≡◌};
-ghost use Rattle.checks.specs.Refusals.{listed};
-ghost use Rattle.view_checks.specs.Refusals.{number_of, values_of};
+ghost use Rattle.view_checks.specs.Refusals.{number_of as view_number, values_of as view_values};
 
 use crate::error::CreateTextureViewError as Ctve;
-use checks::refusal::Values;
+use checks::refusal::{Refusal, Values};
+use types::bits::BitSet;
 
-impl Ctve {
-    pub fn number(&self) -> u32
-        ensures { result ≡ number_of self.now }
-    {
+impl Refusal for Ctve {
+    ghost number_of = { view_number };
+
+    ghost values_of = { view_values };
+
+    fn number(&self) -> u32 {
         match self {
             Ctve::MissingFeatures(_) => 12,
             Ctve::InvalidTransientTextureViewUsage { .. } => 33,
@@ -32,29 +33,31 @@ impl Ctve {
     }
 
     // In the order of the error's fields; an aspect and a dimension by their codes.
-    pub fn values(&self) -> Values
-        ensures { listed result ≡ values_of self.now }
-    {
+    fn values(&self) -> Values {
         match *self {
-            Ctve::MissingFeatures(missing) => Values::One(missing.0),
-            Ctve::InvalidTransientTextureViewUsage { texture, view } => Values::Two(texture, view),
-            Ctve::InvalidTextureViewUsage { view, texture } => Values::Two(view, texture),
-            Ctve::TextureViewFormatNotRenderable(format) => Values::One(format.code()),
-            Ctve::TextureViewFormatNotStorage(format) => Values::One(format.code()),
+            Ctve::MissingFeatures(missing) => Values::One(missing.0.bits()),
+            Ctve::InvalidTransientTextureViewUsage { texture, view } => {
+                Values::Two(texture.bits(), view.bits())
+            }
+            Ctve::InvalidTextureViewUsage { view, texture } => {
+                Values::Two(view.bits(), texture.bits())
+            }
+            Ctve::TextureViewFormatNotRenderable(format) => Values::One(format.into()),
+            Ctve::TextureViewFormatNotStorage(format) => Values::One(format.into()),
             Ctve::InvalidAspect {
                 texture_format: format,
                 requested_aspect: aspect,
-            } => Values::Two(format.code(), aspect.code()),
+            } => Values::Two(format.into(), aspect.into()),
             Ctve::FormatReinterpretation {
                 texture: format,
                 view: other,
-            } => Values::Two(format.code(), other.code()),
-            Ctve::InvalidMultisampledTextureViewDimension(dim) => Values::One(dim.code()),
+            } => Values::Two(format.into(), other.into()),
+            Ctve::InvalidMultisampledTextureViewDimension(dim) => Values::One(dim.into()),
             Ctve::InvalidTextureViewDimension {
                 view: dim,
                 texture: dimension,
-            } => Values::Two(dim.code(), dimension.code()),
-            Ctve::InvalidArrayLayerCount { requested, dim } => Values::Two(requested, dim.code()),
+            } => Values::Two(dim.into(), dimension.into()),
+            Ctve::InvalidArrayLayerCount { requested, dim } => Values::Two(requested, dim.into()),
             Ctve::InvalidCubemapTextureDepth { depth } => Values::One(depth),
             Ctve::InvalidCubemapArrayTextureDepth { depth } => Values::One(depth),
             Ctve::InvalidCubeTextureViewSize => Values::Nothing,

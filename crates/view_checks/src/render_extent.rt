@@ -4,7 +4,7 @@ ghost use Rattle.checks.specs.Check.{answered};
 ghost use Rattle.view_checks.specs.Views.{extent_of, render_checks};
 
 use crate::resolve::ResolvedView;
-use types::bits;
+use types::bits::BitSet;
 use types::dimension::TextureViewDimension;
 use types::extent::Extent3d;
 use types::features::Features;
@@ -13,15 +13,15 @@ use types::usages::TextureUsages;
 use types::view::TextureViewNotRenderableReason;
 
 pub(crate) fn render_extent(
-    features: u32,
+    features: Features,
     texture: &Texture,
     view: &ResolvedView,
 ) -> Result<Extent3d, TextureViewNotRenderableReason>
-    ensures { result ≡ answered (render_checks features texture.now view.now) (extent_of texture.now view.now) }
+    ensures { result ≡ answered (render_checks features.0 texture.now view.now) (extent_of texture.now view.now) }
 {
     let aspects = texture.format.selected_aspects(view.aspect);
     'error: {
-        if !bits::contains(view.usage, TextureUsages::RENDER_ATTACHMENT) {
+        if !view.usage.contains(TextureUsages::RENDER_ATTACHMENT) {
             break 'error Err(TextureViewNotRenderableReason::Usage(view.usage));
         }
         if !matches!(
@@ -33,7 +33,7 @@ pub(crate) fn render_extent(
         if view.mip_level_count != 1 {
             break 'error Err(TextureViewNotRenderableReason::MipLevelCount(view.mip_level_count));
         }
-        if view.array_layer_count != 1 && !bits::contains(features, Features::MULTIVIEW) {
+        if view.array_layer_count != 1 && !features.contains(Features::MULTIVIEW) {
             break 'error Err(TextureViewNotRenderableReason::ArrayLayerCount(
                 view.array_layer_count,
             ));

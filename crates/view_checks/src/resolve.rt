@@ -1,19 +1,22 @@
 // The omitted fields of a view request, filled in from the texture.
 ghost use Rattle.std.specs.Prelude.{◌≡◌};
-ghost use Rattle.view_checks.specs.Resolved.{filled_dimension, filled_format, filled_layers, filled_levels, filled_usage, resolved};
+ghost use Rattle.view_checks.specs.Resolved.{filled_dimension, filled_format, filled_layers, filled_levels, filled_usage, own_dimension, own_layers, resolved};
+ghost use Rattle.types.specs.Textures.{layers_of};
 
 use types::aspect::TextureAspect;
+use types::bits::BitSet;
 use types::dimension::{TextureDimension, TextureViewDimension};
 use types::format::TextureFormat;
 use types::texture::Texture;
+use types::usages::TextureUsages;
 use types::view_descriptor::TextureViewDescriptor;
 
 // A view request with nothing omitted.
-#[derive(Clone, Copy)]
+#[derive(Clone, Copy, Debug, PartialEq, Eq)]
 pub struct ResolvedView {
     pub format: TextureFormat,
     pub dimension: TextureViewDimension,
-    pub usage: u32,
+    pub usage: TextureUsages,
     pub aspect: TextureAspect,
     pub base_mip_level: u32,
     pub mip_level_count: u32,
@@ -51,13 +54,9 @@ fn resolve_format(
 ) -> TextureFormat
     ensures { result ≡ filled_format texture aspect format }
 {
-    match format {
-        Some(format) => format,
-        None => match texture.aspect_specific_format(aspect) {
-            Some(part) => part,
-            None => texture,
-        },
-    }
+    format
+        .or(texture.aspect_specific_format(aspect))
+        .unwrap_or(texture)
 }
 
 // The texture's own dimension; several layers are viewed as an array.
@@ -67,9 +66,12 @@ fn resolve_dimension(
 ) -> TextureViewDimension
     ensures { result ≡ filled_dimension texture.now dimension }
 {
-    if let Some(dimension) = dimension {
-        return dimension;
-    }
+    dimension.unwrap_or(own_dimension(texture))
+}
+
+fn own_dimension(texture: &Texture) -> TextureViewDimension
+    ensures { result ≡ own_dimension texture.now.dimension (layers_of texture.now) }
+{
     match texture.dimension {
         TextureDimension::D1 => TextureViewDimension::D1,
         TextureDimension::D2 if texture.array_layer_count() == 1 => TextureViewDimension::D2,
@@ -79,11 +81,11 @@ fn resolve_dimension(
 }
 
 // No usage, omitted or empty, means the texture's.
-fn resolve_usage(texture: u32, usage: Option<u32>) -> u32
+fn resolve_usage(texture: TextureUsages, usage: Option<TextureUsages>) -> TextureUsages
     ensures { result ≡ filled_usage texture usage }
 {
     match usage {
-        Some(usage) if usage != 0 => usage,
+        Some(usage) if !usage.is_empty() => usage,
         _ => texture,
     }
 }
@@ -92,10 +94,7 @@ fn resolve_usage(texture: u32, usage: Option<u32>) -> u32
 fn resolve_levels(texture: &Texture, first: u32, count: Option<u32>) -> u32
     ensures { result ≡ filled_levels texture.now first count }
 {
-    match count {
-        Some(count) => count,
-        None => texture.mip_level_count.saturating_sub(first),
-    }
+    count.unwrap_or(texture.mip_level_count.saturating_sub(first))
 }
 
 // As many as the dimension always has, else every layer from the first one on.
@@ -107,9 +106,12 @@ fn resolve_layers(
 ) -> u32
     ensures { result ≡ filled_layers texture.now dimension first count }
 {
-    if let Some(count) = count {
-        return count;
-    }
+    count.unwrap_or(own_layers(texture, dimension, first))
+}
+
+fn own_layers(texture: &Texture, dimension: TextureViewDimension, first: u32) -> u32
+    ensures { result ≡ own_layers (layers_of texture.now) first dimension }
+{
     match dimension {
         TextureViewDimension::D1 | TextureViewDimension::D2 | TextureViewDimension::D3 => 1,
         TextureViewDimension::Cube => 6,

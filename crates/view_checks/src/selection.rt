@@ -1,29 +1,21 @@
 // Whether two views select the same of a texture.
-ghost use Rattle.std.specs.Prelude.{◌≡◌, ℕ, Decides};
-ghost use Rattle.types.specs.declared.range.Range.{Range};
+ghost use Rattle.std.specs.Prelude.{ℕ, ◌↔◌, IsTrue};
 ghost use Rattle.types.specs.declared.texture.Texture.{Texture};
 ghost use Rattle.view_checks.specs.Selection.{SameParts, SameTriples, ViewOf};
 
-use types::range::Range;
 use types::view::TextureView;
 
 // Whether the level ranges, the layer ranges and the aspect sets are equal. For two accepted views of one texture that is
 // whether they select the same triples of a level, a layer and an aspect.
 pub fn select_alike(a: &TextureView, b: &TextureView) -> bool
-    ensures parts { Decides result (SameParts a.now b.now) }
-    ensures triples { (features others : ℕ) (t : Texture) → ViewOf features t a.now → ViewOf others t b.now → Decides result (SameTriples a.now b.now) }
+    ensures parts { IsTrue result ↔ SameParts a.now b.now }
+    ensures triples { (features others : ℕ) (t : Texture) → ViewOf features t a.now → ViewOf others t b.now → IsTrue result ↔ SameTriples a.now b.now }
 {
     same_parts(a, b)
 }
 
 fn same_parts(a: &TextureView, b: &TextureView) -> bool
-    ensures { Decides result (SameParts a.now b.now) }
+    ensures { IsTrue result ↔ SameParts a.now b.now }
 {
-    same_range(a.mips, b.mips) && same_range(a.layers, b.layers) && a.aspects == b.aspects
-}
-
-fn same_range(a: Range, b: Range) -> bool
-    ensures { Decides result (a ≡ b) }
-{
-    a.first == b.first && a.end == b.end && a.total == b.total
+    a.mips == b.mips && a.layers == b.layers && a.aspects == b.aspects
 }

@@ -1,5 +1,6 @@
-// The checks of a view request, one group after the other: the first refusal is the answer, else the view worked out.
-ghost use Rattle.std.specs.Prelude.{◌≡◌, false, not, IfOk, Decides};
+// The checks of a view request, one group after the other: the first refusal is the answer, else the view worked out. A group
+// takes what it reads and no more, so that its signature says what its refusals can depend on.
+ghost use Rattle.std.specs.Prelude.{◌≡◌, ◌↔◌, false, not, IfOk, IsTrue};
 ghost use Rattle.checks.specs.Check.{as_outcome, outcome};
 ghost use Rattle.types.specs.Bits.{contains};
 ghost use Rattle.types.specs.Features.{MULTISAMPLE_ARRAY};
@@ -29,11 +30,11 @@ pub fn check_view_descriptor(
     texture: &Texture,
     desc: &TextureViewDescriptor,
 ) -> Result<TextureView, CreateTextureViewError>
-    ensures value { as_outcome result ≡ outcome (view_checks device.now.features texture.now (resolved texture.now desc.now)) }
-    ensures view { IfOk result (λ view. WorkedOut device.now.features texture.now (resolved texture.now desc.now) view) }
-    ensures only { IfOk result (λ view. OnlyView device.now.features texture.now (resolved texture.now desc.now) view) }
-    ensures webgpu { contains device.now.features MULTISAMPLE_ARRAY ≡ false → Decides (not (refused_as_view result)) (Accepts device.now texture.now (resolved texture.now desc.now)) }
-    ensures laws { IfOk result (λ view. Lawful device.now.features texture.now view) }
+    ensures value { as_outcome result ≡ outcome (view_checks device.now.features.0 texture.now (resolved texture.now desc.now)) }
+    ensures view { IfOk result (λ view. WorkedOut device.now.features.0 texture.now (resolved texture.now desc.now) view) }
+    ensures only { IfOk result (λ view. OnlyView device.now.features.0 texture.now (resolved texture.now desc.now) view) }
+    ensures webgpu { contains device.now.features.0 MULTISAMPLE_ARRAY ≡ false → IsTrue (not (refused_as_view result)) ↔ Accepts device.now texture.now (resolved texture.now desc.now) }
+    ensures laws { IfOk result (λ view. Lawful device.now.features.0 texture.now view) }
 {
     let view = resolve_view_descriptor(texture, desc);
     check_usage(texture.usage, view.usage)?;

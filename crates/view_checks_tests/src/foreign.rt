@@ -1,10 +1,13 @@
 // Textures that no request makes: a record can come from elsewhere.
-use crate::device::{DEVICE, WHOLE, WHOLE_RANGE};
+use crate::requests::{WHOLE, WHOLE_RANGE, refusal, viewed};
 use std::test::Fail;
+use types::capabilities::Capabilities;
 use types::dimension::{TextureDimension, TextureViewDimension};
 use types::extent::Extent3d;
 use types::format::TextureFormat;
 use types::texture::Texture;
+use types::usages::TextureUsages;
+use types::uses::TextureUses;
 use types::view_descriptor::{ImageSubresourceRange, TextureViewDescriptor};
 use view_checks::error::CreateTextureViewError;
 use view_checks::view::check_view_descriptor;
@@ -20,15 +23,15 @@ fn endless() -> Texture {
         sample_count: 1,
         dimension: TextureDimension::D2,
         format: TextureFormat::Rgba8Unorm,
-        usage: 4,
+        usage: TextureUsages(4),
         twin_listed: false,
-        hal_usage: 12,
+        hal_usage: TextureUses(12),
     }
 }
 
 // A sum that stops at the largest number would end where the view begins: a view of no layer.
 #[test]
-fn the_end_of_the_layers_is_the_true_sum(rt: HostRuntime) -> Result<(), Fail> {
+fn the_end_of_the_layers_is_the_true_sum(rt: HostRuntime) {
     let desc = TextureViewDescriptor {
         dimension: Some(TextureViewDimension::D2),
         range: ImageSubresourceRange {
@@ -37,19 +40,13 @@ fn the_end_of_the_layers_is_the_true_sum(rt: HostRuntime) -> Result<(), Fail> {
         },
         ..WHOLE
     };
-    match check_view_descriptor(&DEVICE, &endless(), &desc) {
-        Err(
-            CreateTextureViewError::TooManyArrayLayers {
-                base_array_layer: first,
-                array_layer_count: count,
-                total,
-            },
-        ) => {
-            assert!(rt; first == u32::MAX && count == 1 && total == u32::MAX);
-            Ok(())
-        },
-        _ => Err(Fail::new("another answer than too many layers")),
-    }
+    let answer = check_view_descriptor(&Capabilities::DEFAULT, &endless(), &desc);
+    let too_many = CreateTextureViewError::TooManyArrayLayers {
+        base_array_layer: u32::MAX,
+        array_layer_count: 1,
+        total: u32::MAX,
+    };
+    assert_eq!(rt; answer.err(), Some(too_many));
 }
 
 #[test]
@@ -61,14 +58,11 @@ fn the_last_of_all_layers_is_viewed(rt: HostRuntime) -> Result<(), Fail> {
         },
         ..WHOLE
     };
-    match check_view_descriptor(&DEVICE, &endless(), &desc) {
-        Ok(view) => {
-            assert!(rt; view.layers.first == u32::MAX - 1 && view.layers.end == u32::MAX);
-            assert!(rt; matches!(view.dimension, TextureViewDimension::D2Array));
-            Ok(())
-        }
-        Err(_) => Err(Fail::new("the view is refused")),
-    }
+    let view = viewed(&Capabilities::DEFAULT, &endless(), &desc)?;
+    assert_eq!(rt; view.layers.first, u32::MAX - 1);
+    assert_eq!(rt; view.layers.end, u32::MAX);
+    assert_eq!(rt; view.dimension, TextureViewDimension::D2Array);
+    Ok(())
 }
 
 // No usage at all is the texture's own here, and no other is within it.
@@ -84,30 +78,24 @@ fn a_texture_of_no_usage_has_views_of_none(rt: HostRuntime) -> Result<(), Fail> 
         sample_count: 1,
         dimension: TextureDimension::D2,
         format: TextureFormat::Rgba8Unorm,
-        usage: 0,
+        usage: TextureUsages(0),
         twin_listed: false,
-        hal_usage: 0,
+        hal_usage: TextureUses::NONE,
     };
-    match check_view_descriptor(&DEVICE, &texture, &WHOLE) {
-        Ok(view) => assert!(rt; view.usage == 0 && view.hal_usage == 0),
-        Err(_) => return Err(Fail::new("the view is refused")),
-    }
+    let view = viewed(&Capabilities::DEFAULT, &texture, &WHOLE)?;
+    assert_eq!(rt; view.usage, TextureUsages(0));
+    assert_eq!(rt; view.hal_usage, TextureUses::NONE);
     let bound = TextureViewDescriptor {
-        usage: Some(4),
+        usage: Some(TextureUsages(4)),
         ..WHOLE
     };
-    match check_view_descriptor(&DEVICE, &texture, &bound) {
-        Err(error) => {
-            assert!(rt; error.number() == 34);
-            Ok(())
-        },
-        Ok(_) => Err(Fail::new("a usage beyond the texture's is accepted")),
-    }
+    assert_eq!(rt; refusal(&Capabilities::DEFAULT, &texture, &bound), Some(34));
+    Ok(())
 }
 
 // A twin that is noted where the format has none changes nothing.
 #[test]
-fn a_noted_twin_that_there_is_not_opens_no_format(rt: HostRuntime) -> Result<(), Fail> {
+fn a_noted_twin_that_there_is_not_opens_no_format(rt: HostRuntime) {
     let texture = Texture {
         size: Extent3d {
             width: 1,
@@ -118,19 +106,13 @@ fn a_noted_twin_that_there_is_not_opens_no_format(rt: HostRuntime) -> Result<(),
         sample_count: 1,
         dimension: TextureDimension::D2,
         format: TextureFormat::R8Unorm,
-        usage: 4,
+        usage: TextureUsages(4),
         twin_listed: true,
-        hal_usage: 12,
+        hal_usage: TextureUses(12),
     };
     let desc = TextureViewDescriptor {
         format: Some(TextureFormat::Rg8Unorm),
         ..WHOLE
     };
-    match check_view_descriptor(&DEVICE, &texture, &desc) {
-        Err(error) => {
-            assert!(rt; error.number() == 38);
-            Ok(())
-        },
-        Ok(_) => Err(Fail::new("a foreign format is accepted")),
-    }
+    assert_eq!(rt; refusal(&Capabilities::DEFAULT, &texture, &desc), Some(38));
 }

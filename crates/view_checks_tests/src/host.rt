@@ -1,39 +1,40 @@
 // What the host is told of a view: format and usages; and the aspects that the view selects.
-use crate::device::{FACES, IMAGE, WHOLE, WHOLE_RANGE};
-use crate::{accepted, viewed, with_features};
+use crate::requests::{FACES, IMAGE, WHOLE, WHOLE_RANGE, accepted, viewed, with_features};
 use std::process::Abort;
 use std::test::Fail;
-use types::aspect::TextureAspect;
+use types::aspect::{FormatAspects, TextureAspect};
 use types::descriptor::TextureDescriptor;
 use types::dimension::{TextureDimension, TextureViewDimension};
+use types::features::Features;
 use types::format::TextureFormat;
+use types::usages::TextureUsages;
+use types::uses::TextureUses;
 use types::view_descriptor::{ImageSubresourceRange, TextureViewDescriptor};
 
 struct Case {
-    features: u32,
+    features: Features,
     texture: TextureDescriptor<'static>,
     view: TextureViewDescriptor,
-    // by their codes
-    format: u32,
-    hal_format: u32,
-    hal_usage: u32,
-    aspects: u32,
+    format: TextureFormat,
+    hal_format: TextureFormat,
+    hal_usage: TextureUses,
+    aspects: FormatAspects,
 }
 
 static CASES: [Case; 17] = [
     // several levels are only bound
     Case {
-        features: 0,
+        features: Features::NONE,
         texture: FACES,
         view: WHOLE,
-        format: 3,
-        hal_format: 3,
-        hal_usage: 4,
-        aspects: 1,
+        format: TextureFormat::Rgba8Unorm,
+        hal_format: TextureFormat::Rgba8Unorm,
+        hal_usage: TextureUses(4),
+        aspects: FormatAspects(1),
     },
     // one level is rendered to as well
     Case {
-        features: 0,
+        features: Features::NONE,
         texture: FACES,
         view: TextureViewDescriptor {
             range: ImageSubresourceRange {
@@ -42,14 +43,14 @@ static CASES: [Case; 17] = [
             },
             ..WHOLE
         },
-        format: 3,
-        hal_format: 3,
-        hal_usage: 12,
-        aspects: 1,
+        format: TextureFormat::Rgba8Unorm,
+        hal_format: TextureFormat::Rgba8Unorm,
+        hal_usage: TextureUses(12),
+        aspects: FormatAspects(1),
     },
     // the faces of a cube are only bound
     Case {
-        features: 0,
+        features: Features::NONE,
         texture: FACES,
         view: TextureViewDescriptor {
             dimension: Some(TextureViewDimension::Cube),
@@ -59,27 +60,30 @@ static CASES: [Case; 17] = [
             },
             ..WHOLE
         },
-        format: 3,
-        hal_format: 3,
-        hal_usage: 4,
-        aspects: 1,
+        format: TextureFormat::Rgba8Unorm,
+        hal_format: TextureFormat::Rgba8Unorm,
+        hal_usage: TextureUses(4),
+        aspects: FormatAspects(1),
     },
     // copies go by the texture
     Case {
-        features: 0,
-        texture: TextureDescriptor { usage: 23, ..IMAGE },
+        features: Features::NONE,
+        texture: TextureDescriptor {
+            usage: TextureUsages(23),
+            ..IMAGE
+        },
         view: WHOLE,
-        format: 3,
-        hal_format: 3,
-        hal_usage: 12,
-        aspects: 1,
+        format: TextureFormat::Rgba8Unorm,
+        hal_format: TextureFormat::Rgba8Unorm,
+        hal_usage: TextureUses(12),
+        aspects: FormatAspects(1),
     },
     // a volume is bound or stored, not rendered to
     Case {
-        features: 0,
+        features: Features::NONE,
         texture: TextureDescriptor {
             dimension: TextureDimension::D3,
-            usage: 28,
+            usage: TextureUsages(28),
             ..FACES
         },
         view: TextureViewDescriptor {
@@ -89,38 +93,41 @@ static CASES: [Case; 17] = [
             },
             ..WHOLE
         },
-        format: 3,
-        hal_format: 3,
-        hal_usage: 196,
-        aspects: 1,
+        format: TextureFormat::Rgba8Unorm,
+        hal_format: TextureFormat::Rgba8Unorm,
+        hal_usage: TextureUses(196),
+        aspects: FormatAspects(1),
     },
     // storage in each way that the format has
     Case {
-        features: 0,
+        features: Features::NONE,
         texture: TextureDescriptor {
             format: TextureFormat::R32Uint,
-            usage: 8,
+            usage: TextureUsages(8),
             ..IMAGE
         },
         view: WHOLE,
-        format: 7,
-        hal_format: 7,
-        hal_usage: 448,
-        aspects: 1,
+        format: TextureFormat::R32Uint,
+        hal_format: TextureFormat::R32Uint,
+        hal_usage: TextureUses(448),
+        aspects: FormatAspects(1),
     },
     // storage of several levels
     Case {
-        features: 0,
-        texture: TextureDescriptor { usage: 12, ..FACES },
+        features: Features::NONE,
+        texture: TextureDescriptor {
+            usage: TextureUsages(12),
+            ..FACES
+        },
         view: WHOLE,
-        format: 3,
-        hal_format: 3,
-        hal_usage: 4,
-        aspects: 1,
+        format: TextureFormat::Rgba8Unorm,
+        hal_format: TextureFormat::Rgba8Unorm,
+        hal_usage: TextureUses(4),
+        aspects: FormatAspects(1),
     },
     // the depth of a combined format
     Case {
-        features: 0,
+        features: Features::NONE,
         texture: TextureDescriptor {
             format: TextureFormat::Depth24PlusStencil8,
             ..IMAGE
@@ -132,14 +139,14 @@ static CASES: [Case; 17] = [
             },
             ..WHOLE
         },
-        format: 12,
-        hal_format: 15,
-        hal_usage: 52,
-        aspects: 2,
+        format: TextureFormat::Depth24Plus,
+        hal_format: TextureFormat::Depth24PlusStencil8,
+        hal_usage: TextureUses(52),
+        aspects: FormatAspects(2),
     },
     // the stencil of a combined format
     Case {
-        features: 0,
+        features: Features::NONE,
         texture: TextureDescriptor {
             format: TextureFormat::Depth24PlusStencil8,
             ..IMAGE
@@ -151,30 +158,30 @@ static CASES: [Case; 17] = [
             },
             ..WHOLE
         },
-        format: 14,
-        hal_format: 15,
-        hal_usage: 52,
-        aspects: 4,
+        format: TextureFormat::Stencil8,
+        hal_format: TextureFormat::Depth24PlusStencil8,
+        hal_usage: TextureUses(52),
+        aspects: FormatAspects(4),
     },
     // both of them
     Case {
-        features: 0,
+        features: Features::NONE,
         texture: TextureDescriptor {
             format: TextureFormat::Depth24PlusStencil8,
             ..IMAGE
         },
         view: WHOLE,
-        format: 15,
-        hal_format: 15,
-        hal_usage: 52,
-        aspects: 6,
+        format: TextureFormat::Depth24PlusStencil8,
+        hal_format: TextureFormat::Depth24PlusStencil8,
+        hal_usage: TextureUses(52),
+        aspects: FormatAspects(6),
     },
     // the stencil of the wider one
     Case {
-        features: 32,
+        features: Features(32),
         texture: TextureDescriptor {
             format: TextureFormat::Depth32FloatStencil8,
-            usage: 16,
+            usage: TextureUsages(16),
             ..IMAGE
         },
         view: TextureViewDescriptor {
@@ -184,14 +191,14 @@ static CASES: [Case; 17] = [
             },
             ..WHOLE
         },
-        format: 14,
-        hal_format: 16,
-        hal_usage: 48,
-        aspects: 4,
+        format: TextureFormat::Stencil8,
+        hal_format: TextureFormat::Depth32FloatStencil8,
+        hal_usage: TextureUses(48),
+        aspects: FormatAspects(4),
     },
     // a depth that stands alone
     Case {
-        features: 0,
+        features: Features::NONE,
         texture: TextureDescriptor {
             format: TextureFormat::Depth16Unorm,
             ..IMAGE
@@ -203,14 +210,14 @@ static CASES: [Case; 17] = [
             },
             ..WHOLE
         },
-        format: 11,
-        hal_format: 11,
-        hal_usage: 52,
-        aspects: 2,
+        format: TextureFormat::Depth16Unorm,
+        hal_format: TextureFormat::Depth16Unorm,
+        hal_usage: TextureUses(52),
+        aspects: FormatAspects(2),
     },
     // a twin is no part: it is told as it is
     Case {
-        features: 0,
+        features: Features::NONE,
         texture: TextureDescriptor {
             view_formats: &[TextureFormat::Rgba8UnormSrgb],
             ..IMAGE
@@ -219,14 +226,14 @@ static CASES: [Case; 17] = [
             format: Some(TextureFormat::Rgba8UnormSrgb),
             ..WHOLE
         },
-        format: 4,
-        hal_format: 4,
-        hal_usage: 12,
-        aspects: 1,
+        format: TextureFormat::Rgba8UnormSrgb,
+        hal_format: TextureFormat::Rgba8UnormSrgb,
+        hal_usage: TextureUses(12),
+        aspects: FormatAspects(1),
     },
     // the first plane
     Case {
-        features: 64,
+        features: Features(64),
         texture: TextureDescriptor {
             format: TextureFormat::NV12,
             ..IMAGE
@@ -238,14 +245,14 @@ static CASES: [Case; 17] = [
             },
             ..WHOLE
         },
-        format: 1,
-        hal_format: 1,
-        hal_usage: 12,
-        aspects: 8,
+        format: TextureFormat::R8Unorm,
+        hal_format: TextureFormat::R8Unorm,
+        hal_usage: TextureUses(12),
+        aspects: FormatAspects(8),
     },
     // the second plane
     Case {
-        features: 64,
+        features: Features(64),
         texture: TextureDescriptor {
             format: TextureFormat::NV12,
             ..IMAGE
@@ -257,38 +264,38 @@ static CASES: [Case; 17] = [
             },
             ..WHOLE
         },
-        format: 2,
-        hal_format: 2,
-        hal_usage: 12,
-        aspects: 16,
+        format: TextureFormat::Rg8Unorm,
+        hal_format: TextureFormat::Rg8Unorm,
+        hal_usage: TextureUses(12),
+        aspects: FormatAspects(16),
     },
     // both planes
     Case {
-        features: 64,
+        features: Features(64),
         texture: TextureDescriptor {
             format: TextureFormat::NV12,
-            usage: 4,
+            usage: TextureUsages(4),
             ..IMAGE
         },
         view: WHOLE,
-        format: 22,
-        hal_format: 22,
-        hal_usage: 4,
-        aspects: 24,
+        format: TextureFormat::NV12,
+        hal_format: TextureFormat::NV12,
+        hal_usage: TextureUses(4),
+        aspects: FormatAspects(24),
     },
     // a transient attachment
     Case {
-        features: 0,
+        features: Features::NONE,
         texture: TextureDescriptor {
             format: TextureFormat::Depth24Plus,
-            usage: 48,
+            usage: TextureUsages(48),
             ..IMAGE
         },
         view: WHOLE,
-        format: 12,
-        hal_format: 12,
-        hal_usage: 1072,
-        aspects: 2,
+        format: TextureFormat::Depth24Plus,
+        hal_format: TextureFormat::Depth24Plus,
+        hal_usage: TextureUses(1072),
+        aspects: FormatAspects(2),
     },
 ];
 
@@ -296,11 +303,16 @@ fn check_case(rt: &impl Abort, case: &Case) -> Result<(), Fail> {
     let device = with_features(case.features);
     let texture = accepted(&device, &case.texture)?;
     let view = viewed(&device, &texture, &case.view)?;
-    assert_eq!(rt; view.format.code(), case.format);
-    assert_eq!(rt; view.hal_format.code(), case.hal_format);
-    assert_eq!(rt; view.hal_usage, case.hal_usage);
-    assert_eq!(rt; view.aspects, case.aspects);
-    assert_eq!(rt; view.samples, case.texture.sample_count);
+    assert_eq!(rt; view.format, case.format, "of {:?}", case.view);
+    assert_eq!(rt; view.hal_format, case.hal_format, "of {:?}", case.view);
+    assert_eq!(rt; view.hal_usage, case.hal_usage, "of {:?}", case.view);
+    assert_eq!(rt; view.aspects, case.aspects, "of {:?}", case.view);
+    assert_eq!(rt;
+        view.samples,
+        case.texture.sample_count,
+        "of {:?}",
+        case.view
+    );
     Ok(())
 }
 

@@ -1,24 +1,24 @@
 // Omitted fields of a view, and what they are filled in with.
-use crate::device::{FACES, IMAGE, WHOLE, WHOLE_RANGE};
-use crate::{accepted, with_features};
+use crate::requests::{FACES, IMAGE, WHOLE, WHOLE_RANGE, accepted, with_features};
 use std::process::Abort;
 use std::test::Fail;
 use types::aspect::TextureAspect;
 use types::descriptor::TextureDescriptor;
 use types::dimension::{TextureDimension, TextureViewDimension};
 use types::extent::Extent3d;
+use types::features::Features;
 use types::format::TextureFormat;
+use types::usages::TextureUsages;
 use types::view_descriptor::{ImageSubresourceRange, TextureViewDescriptor};
-use view_checks::resolve::resolve_view_descriptor;
+use view_checks::resolve::{ResolvedView, resolve_view_descriptor};
 
 struct Case {
-    features: u32,
+    features: Features,
     texture: TextureDescriptor<'static>,
     view: TextureViewDescriptor,
-    // by their codes
-    format: u32,
-    dimension: u32,
-    usage: u32,
+    format: TextureFormat,
+    dimension: TextureViewDimension,
+    usage: TextureUsages,
     levels: u32,
     layers: u32,
 }
@@ -26,32 +26,32 @@ struct Case {
 static CASES: [Case; 22] = [
     // several layers are an array
     Case {
-        features: 0,
+        features: Features::NONE,
         texture: FACES,
         view: WHOLE,
-        format: 3,
-        dimension: 3,
-        usage: 20,
+        format: TextureFormat::Rgba8Unorm,
+        dimension: TextureViewDimension::D2Array,
+        usage: TextureUsages(20),
         levels: 7,
         layers: 6,
     },
     // one layer is an image
     Case {
-        features: 0,
+        features: Features::NONE,
         texture: IMAGE,
         view: WHOLE,
-        format: 3,
-        dimension: 2,
-        usage: 20,
+        format: TextureFormat::Rgba8Unorm,
+        dimension: TextureViewDimension::D2,
+        usage: TextureUsages(20),
         levels: 1,
         layers: 1,
     },
     // a line
     Case {
-        features: 0,
+        features: Features::NONE,
         texture: TextureDescriptor {
             dimension: TextureDimension::D1,
-            usage: 4,
+            usage: TextureUsages(4),
             size: Extent3d {
                 width: 64,
                 height: 1,
@@ -60,57 +60,57 @@ static CASES: [Case; 22] = [
             ..IMAGE
         },
         view: WHOLE,
-        format: 3,
-        dimension: 1,
-        usage: 4,
+        format: TextureFormat::Rgba8Unorm,
+        dimension: TextureViewDimension::D1,
+        usage: TextureUsages(4),
         levels: 1,
         layers: 1,
     },
     // a volume has one layer
     Case {
-        features: 0,
+        features: Features::NONE,
         texture: TextureDescriptor {
             dimension: TextureDimension::D3,
             ..FACES
         },
         view: WHOLE,
-        format: 3,
-        dimension: 6,
-        usage: 20,
+        format: TextureFormat::Rgba8Unorm,
+        dimension: TextureViewDimension::D3,
+        usage: TextureUsages(20),
         levels: 7,
         layers: 1,
     },
     // an array of one image
     Case {
-        features: 0,
+        features: Features::NONE,
         texture: IMAGE,
         view: TextureViewDescriptor {
             dimension: Some(TextureViewDimension::D2Array),
             ..WHOLE
         },
-        format: 3,
-        dimension: 3,
-        usage: 20,
+        format: TextureFormat::Rgba8Unorm,
+        dimension: TextureViewDimension::D2Array,
+        usage: TextureUsages(20),
         levels: 1,
         layers: 1,
     },
     // one image of several
     Case {
-        features: 0,
+        features: Features::NONE,
         texture: FACES,
         view: TextureViewDescriptor {
             dimension: Some(TextureViewDimension::D2),
             ..WHOLE
         },
-        format: 3,
-        dimension: 2,
-        usage: 20,
+        format: TextureFormat::Rgba8Unorm,
+        dimension: TextureViewDimension::D2,
+        usage: TextureUsages(20),
         levels: 7,
         layers: 1,
     },
     // a cube has six layers, wherever it begins
     Case {
-        features: 0,
+        features: Features::NONE,
         texture: FACES,
         view: TextureViewDescriptor {
             dimension: Some(TextureViewDimension::Cube),
@@ -120,15 +120,15 @@ static CASES: [Case; 22] = [
             },
             ..WHOLE
         },
-        format: 3,
-        dimension: 4,
-        usage: 20,
+        format: TextureFormat::Rgba8Unorm,
+        dimension: TextureViewDimension::Cube,
+        usage: TextureUsages(20),
         levels: 7,
         layers: 6,
     },
     // cubes have what is left
     Case {
-        features: 0,
+        features: Features::NONE,
         texture: FACES,
         view: TextureViewDescriptor {
             dimension: Some(TextureViewDimension::CubeArray),
@@ -138,15 +138,15 @@ static CASES: [Case; 22] = [
             },
             ..WHOLE
         },
-        format: 3,
-        dimension: 5,
-        usage: 20,
+        format: TextureFormat::Rgba8Unorm,
+        dimension: TextureViewDimension::CubeArray,
+        usage: TextureUsages(20),
         levels: 7,
         layers: 4,
     },
     // an array has what is left
     Case {
-        features: 0,
+        features: Features::NONE,
         texture: FACES,
         view: TextureViewDescriptor {
             range: ImageSubresourceRange {
@@ -155,15 +155,15 @@ static CASES: [Case; 22] = [
             },
             ..WHOLE
         },
-        format: 3,
-        dimension: 3,
-        usage: 20,
+        format: TextureFormat::Rgba8Unorm,
+        dimension: TextureViewDimension::D2Array,
+        usage: TextureUsages(20),
         levels: 7,
         layers: 4,
     },
     // nothing is left past the last layer
     Case {
-        features: 0,
+        features: Features::NONE,
         texture: FACES,
         view: TextureViewDescriptor {
             range: ImageSubresourceRange {
@@ -172,15 +172,15 @@ static CASES: [Case; 22] = [
             },
             ..WHOLE
         },
-        format: 3,
-        dimension: 3,
-        usage: 20,
+        format: TextureFormat::Rgba8Unorm,
+        dimension: TextureViewDimension::D2Array,
+        usage: TextureUsages(20),
         levels: 7,
         layers: 0,
     },
     // what is left of the levels
     Case {
-        features: 0,
+        features: Features::NONE,
         texture: FACES,
         view: TextureViewDescriptor {
             range: ImageSubresourceRange {
@@ -189,15 +189,15 @@ static CASES: [Case; 22] = [
             },
             ..WHOLE
         },
-        format: 3,
-        dimension: 3,
-        usage: 20,
+        format: TextureFormat::Rgba8Unorm,
+        dimension: TextureViewDimension::D2Array,
+        usage: TextureUsages(20),
         levels: 2,
         layers: 6,
     },
     // nothing is left past the last level
     Case {
-        features: 0,
+        features: Features::NONE,
         texture: FACES,
         view: TextureViewDescriptor {
             range: ImageSubresourceRange {
@@ -206,43 +206,43 @@ static CASES: [Case; 22] = [
             },
             ..WHOLE
         },
-        format: 3,
-        dimension: 3,
-        usage: 20,
+        format: TextureFormat::Rgba8Unorm,
+        dimension: TextureViewDimension::D2Array,
+        usage: TextureUsages(20),
         levels: 0,
         layers: 6,
     },
     // an empty usage is the texture's
     Case {
-        features: 0,
+        features: Features::NONE,
         texture: FACES,
         view: TextureViewDescriptor {
-            usage: Some(0),
+            usage: Some(TextureUsages(0)),
             ..WHOLE
         },
-        format: 3,
-        dimension: 3,
-        usage: 20,
+        format: TextureFormat::Rgba8Unorm,
+        dimension: TextureViewDimension::D2Array,
+        usage: TextureUsages(20),
         levels: 7,
         layers: 6,
     },
     // a usage that is given stays
     Case {
-        features: 0,
+        features: Features::NONE,
         texture: FACES,
         view: TextureViewDescriptor {
-            usage: Some(4),
+            usage: Some(TextureUsages(4)),
             ..WHOLE
         },
-        format: 3,
-        dimension: 3,
-        usage: 4,
+        format: TextureFormat::Rgba8Unorm,
+        dimension: TextureViewDimension::D2Array,
+        usage: TextureUsages(4),
         levels: 7,
         layers: 6,
     },
     // the depth part
     Case {
-        features: 0,
+        features: Features::NONE,
         texture: TextureDescriptor {
             format: TextureFormat::Depth24PlusStencil8,
             ..IMAGE
@@ -254,15 +254,15 @@ static CASES: [Case; 22] = [
             },
             ..WHOLE
         },
-        format: 12,
-        dimension: 2,
-        usage: 20,
+        format: TextureFormat::Depth24Plus,
+        dimension: TextureViewDimension::D2,
+        usage: TextureUsages(20),
         levels: 1,
         layers: 1,
     },
     // the stencil part
     Case {
-        features: 0,
+        features: Features::NONE,
         texture: TextureDescriptor {
             format: TextureFormat::Depth24PlusStencil8,
             ..IMAGE
@@ -274,29 +274,29 @@ static CASES: [Case; 22] = [
             },
             ..WHOLE
         },
-        format: 14,
-        dimension: 2,
-        usage: 20,
+        format: TextureFormat::Stencil8,
+        dimension: TextureViewDimension::D2,
+        usage: TextureUsages(20),
         levels: 1,
         layers: 1,
     },
     // all of a combined format
     Case {
-        features: 0,
+        features: Features::NONE,
         texture: TextureDescriptor {
             format: TextureFormat::Depth24PlusStencil8,
             ..IMAGE
         },
         view: WHOLE,
-        format: 15,
-        dimension: 2,
-        usage: 20,
+        format: TextureFormat::Depth24PlusStencil8,
+        dimension: TextureViewDimension::D2,
+        usage: TextureUsages(20),
         levels: 1,
         layers: 1,
     },
     // a part that there is not is the format itself
     Case {
-        features: 0,
+        features: Features::NONE,
         texture: IMAGE,
         view: TextureViewDescriptor {
             range: ImageSubresourceRange {
@@ -305,18 +305,18 @@ static CASES: [Case; 22] = [
             },
             ..WHOLE
         },
-        format: 3,
-        dimension: 2,
-        usage: 20,
+        format: TextureFormat::Rgba8Unorm,
+        dimension: TextureViewDimension::D2,
+        usage: TextureUsages(20),
         levels: 1,
         layers: 1,
     },
     // the planes
     Case {
-        features: 64,
+        features: Features(64),
         texture: TextureDescriptor {
             format: TextureFormat::NV12,
-            usage: 4,
+            usage: TextureUsages(4),
             ..IMAGE
         },
         view: TextureViewDescriptor {
@@ -326,18 +326,18 @@ static CASES: [Case; 22] = [
             },
             ..WHOLE
         },
-        format: 1,
-        dimension: 2,
-        usage: 4,
+        format: TextureFormat::R8Unorm,
+        dimension: TextureViewDimension::D2,
+        usage: TextureUsages(4),
         levels: 1,
         layers: 1,
     },
     // and the second one
     Case {
-        features: 64,
+        features: Features(64),
         texture: TextureDescriptor {
             format: TextureFormat::NV12,
-            usage: 4,
+            usage: TextureUsages(4),
             ..IMAGE
         },
         view: TextureViewDescriptor {
@@ -347,35 +347,35 @@ static CASES: [Case; 22] = [
             },
             ..WHOLE
         },
-        format: 2,
-        dimension: 2,
-        usage: 4,
+        format: TextureFormat::Rg8Unorm,
+        dimension: TextureViewDimension::D2,
+        usage: TextureUsages(4),
         levels: 1,
         layers: 1,
     },
     // all of a planar format
     Case {
-        features: 64,
+        features: Features(64),
         texture: TextureDescriptor {
             format: TextureFormat::NV12,
-            usage: 4,
+            usage: TextureUsages(4),
             ..IMAGE
         },
         view: WHOLE,
-        format: 22,
-        dimension: 2,
-        usage: 4,
+        format: TextureFormat::NV12,
+        dimension: TextureViewDimension::D2,
+        usage: TextureUsages(4),
         levels: 1,
         layers: 1,
     },
     // what is given stays, whatever it is
     Case {
-        features: 0,
+        features: Features::NONE,
         texture: FACES,
         view: TextureViewDescriptor {
             format: Some(TextureFormat::Stencil8),
             dimension: Some(TextureViewDimension::D1),
-            usage: Some(u32::MAX),
+            usage: Some(TextureUsages(u32::MAX)),
             range: ImageSubresourceRange {
                 base_mip_level: 3,
                 mip_level_count: Some(u32::MAX),
@@ -385,25 +385,33 @@ static CASES: [Case; 22] = [
             },
             ..WHOLE
         },
-        format: 14,
-        dimension: 1,
-        usage: 4294967295,
-        levels: 4294967295,
+        format: TextureFormat::Stencil8,
+        dimension: TextureViewDimension::D1,
+        usage: TextureUsages(u32::MAX),
+        levels: u32::MAX,
         layers: 0,
     },
 ];
 
 fn check_case(rt: &impl Abort, case: &Case) -> Result<(), Fail> {
     let texture = accepted(&with_features(case.features), &case.texture)?;
-    let view = resolve_view_descriptor(&texture, &case.view);
-    assert_eq!(rt; view.format.code(), case.format);
-    assert_eq!(rt; view.dimension.code(), case.dimension);
-    assert_eq!(rt; view.usage, case.usage);
-    assert_eq!(rt; view.mip_level_count, case.levels);
-    assert_eq!(rt; view.array_layer_count, case.layers);
-    assert_eq!(rt; view.base_mip_level, case.view.range.base_mip_level);
-    assert_eq!(rt; view.base_array_layer, case.view.range.base_array_layer);
-    assert_eq!(rt; view.aspect.code(), case.view.range.aspect.code());
+    let range = case.view.range;
+    let filled_in = ResolvedView {
+        format: case.format,
+        dimension: case.dimension,
+        usage: case.usage,
+        aspect: range.aspect,
+        base_mip_level: range.base_mip_level,
+        mip_level_count: case.levels,
+        base_array_layer: range.base_array_layer,
+        array_layer_count: case.layers,
+    };
+    assert_eq!(rt;
+        resolve_view_descriptor(&texture, &case.view),
+        filled_in,
+        "of {:?}",
+        case.view
+    );
     Ok(())
 }
 

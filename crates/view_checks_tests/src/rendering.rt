@@ -1,40 +1,29 @@
 // How large a view is when it is rendered to, or why it cannot be.
-use crate::device::{FACES, IMAGE, WHOLE, WHOLE_RANGE};
-use crate::{accepted, viewed, with_features};
+use crate::requests::{FACES, IMAGE, WHOLE, WHOLE_RANGE, accepted, viewed, with_features};
 use std::process::Abort;
 use std::test::Fail;
-use types::aspect::TextureAspect;
+use types::aspect::{FormatAspects, TextureAspect};
 use types::descriptor::TextureDescriptor;
 use types::dimension::{TextureDimension, TextureViewDimension};
 use types::extent::Extent3d;
+use types::features::Features;
 use types::format::TextureFormat;
+use types::usages::TextureUsages;
 use types::view::TextureViewNotRenderableReason as Reason;
 use types::view_descriptor::{ImageSubresourceRange, TextureViewDescriptor};
 
-// Width and height, or the reason with its value: a dimension by its code.
-#[derive(Clone, Copy, PartialEq, Debug)]
-enum Rendered {
-    At(u32, u32),
-    Usage(u32),
-    Dimension(u32),
-    Levels(u32),
-    Layers(u32),
-    Aspects(u32),
-}
-
-use Rendered::*;
-
 struct Case {
-    features: u32,
+    features: Features,
     texture: TextureDescriptor<'static>,
     view: TextureViewDescriptor,
-    answer: Rendered,
+    // how large, or why not
+    answer: Result<Extent3d, Reason>,
 }
 
 static CASES: [Case; 16] = [
     // level 3 of a face
     Case {
-        features: 0,
+        features: Features::NONE,
         texture: FACES,
         view: TextureViewDescriptor {
             dimension: Some(TextureViewDimension::D2),
@@ -45,18 +34,26 @@ static CASES: [Case; 16] = [
             },
             ..WHOLE
         },
-        answer: At(8, 8),
+        answer: Ok(Extent3d {
+            width: 8,
+            height: 8,
+            depth_or_array_layers: 1,
+        }),
     },
     // all of an image
     Case {
-        features: 0,
+        features: Features::NONE,
         texture: IMAGE,
         view: WHOLE,
-        answer: At(64, 32),
+        answer: Ok(Extent3d {
+            width: 64,
+            height: 32,
+            depth_or_array_layers: 1,
+        }),
     },
     // the last level of an oblong image
     Case {
-        features: 0,
+        features: Features::NONE,
         texture: TextureDescriptor {
             mip_level_count: 7,
             ..IMAGE
@@ -68,11 +65,15 @@ static CASES: [Case; 16] = [
             },
             ..WHOLE
         },
-        answer: At(1, 1),
+        answer: Ok(Extent3d {
+            width: 1,
+            height: 1,
+            depth_or_array_layers: 1,
+        }),
     },
     // a level between
     Case {
-        features: 0,
+        features: Features::NONE,
         texture: TextureDescriptor {
             mip_level_count: 7,
             ..IMAGE
@@ -85,11 +86,15 @@ static CASES: [Case; 16] = [
             },
             ..WHOLE
         },
-        answer: At(4, 2),
+        answer: Ok(Extent3d {
+            width: 4,
+            height: 2,
+            depth_or_array_layers: 1,
+        }),
     },
     // a volume
     Case {
-        features: 0,
+        features: Features::NONE,
         texture: TextureDescriptor {
             dimension: TextureDimension::D3,
             ..FACES
@@ -101,11 +106,15 @@ static CASES: [Case; 16] = [
             },
             ..WHOLE
         },
-        answer: At(64, 64),
+        answer: Ok(Extent3d {
+            width: 64,
+            height: 64,
+            depth_or_array_layers: 1,
+        }),
     },
     // an array of one image
     Case {
-        features: 0,
+        features: Features::NONE,
         texture: FACES,
         view: TextureViewDescriptor {
             range: ImageSubresourceRange {
@@ -115,11 +124,15 @@ static CASES: [Case; 16] = [
             },
             ..WHOLE
         },
-        answer: At(64, 64),
+        answer: Ok(Extent3d {
+            width: 64,
+            height: 64,
+            depth_or_array_layers: 1,
+        }),
     },
     // several images, together
     Case {
-        features: 256,
+        features: Features(256),
         texture: FACES,
         view: TextureViewDescriptor {
             range: ImageSubresourceRange {
@@ -128,11 +141,15 @@ static CASES: [Case; 16] = [
             },
             ..WHOLE
         },
-        answer: At(64, 64),
+        answer: Ok(Extent3d {
+            width: 64,
+            height: 64,
+            depth_or_array_layers: 1,
+        }),
     },
     // several images
     Case {
-        features: 0,
+        features: Features::NONE,
         texture: FACES,
         view: TextureViewDescriptor {
             range: ImageSubresourceRange {
@@ -141,21 +158,21 @@ static CASES: [Case; 16] = [
             },
             ..WHOLE
         },
-        answer: Layers(6),
+        answer: Err(Reason::ArrayLayerCount(6)),
     },
     // several levels
     Case {
-        features: 0,
+        features: Features::NONE,
         texture: FACES,
         view: TextureViewDescriptor {
             dimension: Some(TextureViewDimension::D2),
             ..WHOLE
         },
-        answer: Levels(7),
+        answer: Err(Reason::MipLevelCount(7)),
     },
     // a cube
     Case {
-        features: 0,
+        features: Features::NONE,
         texture: FACES,
         view: TextureViewDescriptor {
             dimension: Some(TextureViewDimension::Cube),
@@ -165,21 +182,21 @@ static CASES: [Case; 16] = [
             },
             ..WHOLE
         },
-        answer: Dimension(4),
+        answer: Err(Reason::Dimension(TextureViewDimension::Cube)),
     },
     // a usage without rendering
     Case {
-        features: 0,
+        features: Features::NONE,
         texture: FACES,
         view: TextureViewDescriptor {
-            usage: Some(4),
+            usage: Some(TextureUsages(4)),
             ..WHOLE
         },
-        answer: Usage(4),
+        answer: Err(Reason::Usage(TextureUsages(4))),
     },
     // the depth of two aspects
     Case {
-        features: 0,
+        features: Features::NONE,
         texture: TextureDescriptor {
             format: TextureFormat::Depth24PlusStencil8,
             ..IMAGE
@@ -191,11 +208,11 @@ static CASES: [Case; 16] = [
             },
             ..WHOLE
         },
-        answer: Aspects(2),
+        answer: Err(Reason::Aspects(FormatAspects(2))),
     },
     // the depth of one
     Case {
-        features: 0,
+        features: Features::NONE,
         texture: TextureDescriptor {
             format: TextureFormat::Depth16Unorm,
             ..IMAGE
@@ -207,11 +224,15 @@ static CASES: [Case; 16] = [
             },
             ..WHOLE
         },
-        answer: At(64, 32),
+        answer: Ok(Extent3d {
+            width: 64,
+            height: 32,
+            depth_or_array_layers: 1,
+        }),
     },
     // the first plane
     Case {
-        features: 64,
+        features: Features(64),
         texture: TextureDescriptor {
             format: TextureFormat::NV12,
             ..IMAGE
@@ -223,11 +244,15 @@ static CASES: [Case; 16] = [
             },
             ..WHOLE
         },
-        answer: At(64, 32),
+        answer: Ok(Extent3d {
+            width: 64,
+            height: 32,
+            depth_or_array_layers: 1,
+        }),
     },
     // the second plane
     Case {
-        features: 64,
+        features: Features(64),
         texture: TextureDescriptor {
             format: TextureFormat::NV12,
             ..IMAGE
@@ -239,11 +264,15 @@ static CASES: [Case; 16] = [
             },
             ..WHOLE
         },
-        answer: At(32, 16),
+        answer: Ok(Extent3d {
+            width: 32,
+            height: 16,
+            depth_or_array_layers: 1,
+        }),
     },
     // the second plane at its last level
     Case {
-        features: 64,
+        features: Features(64),
         texture: TextureDescriptor {
             format: TextureFormat::NV12,
             mip_level_count: 5,
@@ -257,33 +286,20 @@ static CASES: [Case; 16] = [
             },
             ..WHOLE
         },
-        answer: At(2, 1),
+        answer: Ok(Extent3d {
+            width: 2,
+            height: 1,
+            depth_or_array_layers: 1,
+        }),
     },
 ];
-
-fn outcome(answer: Result<Extent3d, Reason>) -> Rendered {
-    match answer {
-        Ok(extent) => At(extent.width, extent.height),
-        Err(Reason::Usage(usage)) => Usage(usage),
-        Err(Reason::Dimension(dimension)) => Dimension(dimension.code()),
-        Err(Reason::MipLevelCount(count)) => Levels(count),
-        Err(Reason::ArrayLayerCount(count)) => Layers(count),
-        Err(Reason::Aspects(aspects)) => Aspects(aspects),
-    }
-}
 
 fn check_case(rt: &impl Abort, case: &Case) -> Result<(), Fail> {
     let device = with_features(case.features);
     let texture = accepted(&device, &case.texture)?;
     let view = viewed(&device, &texture, &case.view)?;
-    assert_eq!(rt; outcome(view.render_extent), case.answer);
-    match view.render_extent {
-        Ok(extent) => {
-            assert!(rt; extent.depth_or_array_layers == 1);
-            Ok(())
-        },
-        Err(_) => Ok(()),
-    }
+    assert_eq!(rt; view.render_extent, case.answer, "of {:?}", case.view);
+    Ok(())
 }
 
 #[test]

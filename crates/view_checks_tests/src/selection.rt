@@ -1,11 +1,12 @@
 // Which views of one texture select the same of it.
-use crate::device::{DEVICE, FACES, IMAGE, WHOLE, WHOLE_RANGE};
-use crate::{accepted, viewed};
+use crate::requests::{FACES, IMAGE, WHOLE, WHOLE_RANGE, accepted, viewed};
 use std::test::Fail;
 use types::aspect::TextureAspect;
+use types::capabilities::Capabilities;
 use types::descriptor::TextureDescriptor;
 use types::dimension::TextureViewDimension;
 use types::format::TextureFormat;
+use types::usages::TextureUsages;
 use types::view_descriptor::{ImageSubresourceRange, TextureViewDescriptor};
 use view_checks::selection::select_alike;
 
@@ -14,9 +15,10 @@ fn alike(
     a: &TextureViewDescriptor,
     b: &TextureViewDescriptor,
 ) -> Result<bool, Fail> {
-    let texture = accepted(&DEVICE, desc)?;
-    let a = viewed(&DEVICE, &texture, a)?;
-    let b = viewed(&DEVICE, &texture, b)?;
+    let device = Capabilities::DEFAULT;
+    let texture = accepted(&device, desc)?;
+    let a = viewed(&device, &texture, a)?;
+    let b = viewed(&device, &texture, b)?;
     Ok(select_alike(&a, &b))
 }
 
@@ -28,7 +30,7 @@ const CUBE: TextureViewDescriptor = TextureViewDescriptor {
 #[test]
 fn dimension_and_usage_play_no_part(rt: HostRuntime) -> Result<(), Fail> {
     let bound = TextureViewDescriptor {
-        usage: Some(4),
+        usage: Some(TextureUsages(4)),
         ..CUBE
     };
     assert!(rt; alike(&FACES, &WHOLE, &CUBE)?);

@@ -1,74 +1,47 @@
 // Compares the checks of texture and view requests with the stored answers of a WebGPU implementation.
 #![tactic(auto)]
 
-ghost use Rattle.std.specs.Prelude.{◌≡◌};
-ghost use Rattle.view_replay.specs.Verdicts.{differs};
-ghost use Rattle.view_replay.specs.Requests.{Asks, TextureJudged, view_verdict};
-
-mod tally;
-
-use answers::line::{Line, LineError, TextureAnswer, TextureRequest, ViewAnswer};
+use answers::line::{AnyAnswer, Line, LineError};
 use answers::parse::parse_line;
-use checks::accepted::accepted_texture;
-use std::error::Error;
-use std::{fmt, fs, io};
-use tally::{Totals, Verdict, compare, refused_with, totals_of};
+use std::fs;
+use thiserror::Error;
 use types::capabilities::Capabilities;
-use types::descriptor::TextureDescriptor;
-use types::features::DownlevelFlags;
-use types::limits::Limits;
-use types::texture::Texture;
-use view_checks::view::check_view_descriptor;
+use verdicts::judge::{judge_texture, judge_view};
+use verdicts::report::{Names, print_tally};
+use verdicts::verdict::Verdict;
 
 const ANSWERS: &str = "webgpu-dawn.txt";
 
 // Of the answers that differ, at most so many are printed.
 const MOST_SHOWN: usize = 20;
 
-// The numbers of the refusals of textures and of views lie from the one to the other.
-const FIRST_REFUSAL: u32 = 3;
+const TEXTURES: Names = Names {
+    before: "texture requests: ",
+    answers: "texture answers",
+};
 
-const LAST_REFUSAL: u32 = 48;
+const VIEWS: Names = Names {
+    before: "view requests: ",
+    answers: "view answers",
+};
 
-#[derive(Clone, Copy, Debug)]
+#[derive(Debug, Drop, Error)]
 enum ReplayError {
+    #[error("line {line} is malformed: {error:?}")]
     Malformed { line: usize, error: LineError },
+    #[error("line {line} views no texture")]
     NoTexture { line: usize },
+    #[error("the file lacks answers")]
     NoAnswers,
+    #[error("{textures} answers on textures and {views} on views differ")]
     Differing { textures: usize, views: usize },
 }
-
-impl fmt::Display for ReplayError {
-    fn fmt<W: fmt::Write>(&self, f: &mut fmt::Formatter<W>) -> fmt::Result {
-        match self {
-            ReplayError::Malformed { line, error } => write!(
-                f,
-                "line {line} is malformed: {error:?}"
-            ),
-            ReplayError::NoTexture { line } => write!(f, "line {line} views no texture"),
-            ReplayError::NoAnswers => write!(f, "the file lacks answers"),
-            ReplayError::Differing { textures, views } => write!(
-                f,
-                "{textures} answers on textures and {views} on views differ"
-            ),
-        }
-    }
-}
-
-impl Error for ReplayError {}
 
 // The verdicts on the answers of a file, in their order.
 #[derive(Drop)]
 struct Verdicts {
     textures: Vec<Verdict>,
     views: Vec<Verdict>,
-}
-
-// What the checks make of a texture request: the texture, where they accept it.
-#[derive(Clone, Copy)]
-struct JudgedTexture {
-    verdict: Verdict,
-    texture: Option<Texture>,
 }
 
 fn main(rt: HostRuntime) -> anyhow::Result<()> {
@@ -81,8 +54,8 @@ fn run(rt: &HostRuntime) -> anyhow::Result<()> {
     if verdicts.textures.is_empty() || verdicts.views.is_empty() {
         return Err(ReplayError::NoAnswers.into());
     }
-    let textures = print_tally(rt, "texture", verdicts.textures.as_slice())?.differing;
-    let views = print_tally(rt, "view", verdicts.views.as_slice())?.differing;
+    let textures = print_tally(rt, TEXTURES, verdicts.textures.as_slice())?;
+    let views = print_tally(rt, VIEWS, verdicts.views.as_slice())?;
     if textures > 0 || views > 0 {
         return Err(ReplayError::Differing { textures, views }.into());
     }
@@ -91,7 +64,7 @@ fn run(rt: &HostRuntime) -> anyhow::Result<()> {
 
 fn replay(rt: &HostRuntime, text: &str) -> anyhow::Result<Verdicts> {
     let heap = rt.alloc();
-    let mut device = default_device();
+    let mut device = Capabilities::DEFAULT;
     // the one that was last made
     let mut texture = None;
     let mut verdicts = Verdicts {
@@ -99,15 +72,19 @@ fn replay(rt: &HostRuntime, text: &str) -> anyhow::Result<Verdicts> {
         views: Vec::new(heap),
     };
     let mut shown = 0;
-    for (index, line) in text.lines().enumerate() {
+    for (index, text) in text.lines().enumerate() {
         let number = index + 1;
-        let verdict = match parse_line(heap, line) {
-            Ok(Line::Comment) => continue,
-            Ok(Line::Features(features)) => {
+        let line = parse_line(heap, text).map_err(|error| ReplayError::Malformed {
+            line: number,
+            error,
+        })?;
+        let verdict = match line {
+            Line::Comment => continue,
+            Line::Features(features) => {
                 device.features = features;
                 continue;
             }
-            Ok(Line::Texture(answer)) => {
+            Line::Answer(AnyAnswer::Texture(answer)) => {
                 let judged = judge_texture(&device, &answer);
                 if answer.accepted {
                     texture = judged.texture;
@@ -115,104 +92,17 @@ fn replay(rt: &HostRuntime, text: &str) -> anyhow::Result<Verdicts> {
                 verdicts.textures.push(judged.verdict)?;
                 judged.verdict
             }
-            Ok(Line::View(answer)) => {
-                let Some(viewed) = &texture else {
-                    return Err(ReplayError::NoTexture { line: number }.into());
-                };
-                let verdict = judge_view(&device, viewed, &answer);
+            Line::Answer(AnyAnswer::View(answer)) => {
+                let viewed = texture.ok_or(ReplayError::NoTexture { line: number })?;
+                let verdict = judge_view(&device, &viewed, &answer);
                 verdicts.views.push(verdict)?;
                 verdict
             }
-            Err(error) => return Err(ReplayError::Malformed {
-                line: number,
-                error,
-            }
-            .into()),
         };
-        if is_difference(verdict) && shown < MOST_SHOWN {
-            println!(rt; "line {number} differs: {line}")?;
+        if verdict.is_difference() && shown < MOST_SHOWN {
+            println!(rt; "line {number} differs: {text}")?;
             shown += 1;
         }
     }
     Ok(verdicts)
-}
-
-// The device that gave the answers, before any feature is on.
-fn default_device() -> Capabilities {
-    Capabilities {
-        limits: Limits {
-            max_texture_dimension_1d: 8192,
-            max_texture_dimension_2d: 8192,
-            max_texture_dimension_3d: 2048,
-            max_texture_array_layers: 256,
-        },
-        features: 0,
-        downlevel_flags: DownlevelFlags::VIEW_FORMATS,
-    }
-}
-
-fn judge_texture(device: &Capabilities, answer: &TextureAnswer) -> JudgedTexture
-    ensures { TextureJudged device.now answer.now result }
-{
-    let desc = descriptor(&answer.request);
-    match accepted_texture(device, &desc) {
-        Ok(texture) => JudgedTexture {
-            verdict: compare(None, answer.accepted),
-            texture: Some(texture),
-        },
-        Err(error) => JudgedTexture {
-            verdict: compare(Some(error.number()), answer.accepted),
-            texture: None,
-        },
-    }
-}
-
-fn descriptor(request: &TextureRequest) -> TextureDescriptor<'_>
-    ensures { Asks request.now result }
-{
-    TextureDescriptor {
-        size: request.size,
-        mip_level_count: request.mip_level_count,
-        sample_count: request.sample_count,
-        dimension: request.dimension,
-        format: request.format,
-        usage: request.usage,
-        view_formats: request.view_formats.as_slice(),
-    }
-}
-
-fn judge_view(device: &Capabilities, texture: &Texture, answer: &ViewAnswer) -> Verdict
-    ensures { result ≡ view_verdict device.now texture.now answer.now }
-{
-    match check_view_descriptor(device, texture, &answer.request) {
-        Ok(_) => compare(None, answer.accepted),
-        Err(error) => compare(Some(error.number()), answer.accepted),
-    }
-}
-
-fn is_difference(verdict: Verdict) -> bool
-    ensures { result ≡ differs verdict }
-{
-    matches!(
-        verdict,
-        Verdict::OnlyChecksAccept | Verdict::OnlyChecksRefuse(_)
-    )
-}
-
-fn print_tally(rt: &HostRuntime, what: &str, verdicts: &[Verdict]) -> io::Result<Totals> {
-    let totals = totals_of(verdicts);
-    let accepted = totals.accepted;
-    let refused = totals.refused;
-    println!(rt; "{what} requests: {accepted} accepted by both, {refused} refused by both")?;
-    for number in FIRST_REFUSAL..=LAST_REFUSAL {
-        let count = refused_with(verdicts, number);
-        if count > 0 {
-            println!(rt; "refusal {number}: {count}")?;
-        }
-    }
-    let compared = verdicts.len();
-    let agreeing = accepted + refused;
-    let differing = totals.differing;
-    println!(rt; "{compared} {what} answers compared, {agreeing} agree, {differing} differ")?;
-    Ok(totals)
 }

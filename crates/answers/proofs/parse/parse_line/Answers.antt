@@ -1,24 +1,15 @@
-use Rattle.std.proofs.Common.{◌≡◌, ℕ, ◌<◌, ◌≤◌, List, length, get_or, vec_items, refl, inl, inr, lit<, Bor, rules}
+use Rattle.std.proofs.Common.{◌≡◌, ℕ, ◌<◌, ◌≤◌, List, length, get_or, vec_items, inr, lit<, Bor, rules}
 use Rattle.std.proofs.iter.runs.Made.{chains}
 use Rattle.std.proofs.lemmas.Str.Pattern.{starts_char}
 use Rattle.std.proofs.lemmas.Result.{MatchResult-weaker}
 use Rattle.std.specs.Str.Iter.{LacksByte}
 use Rattle.std.specs.List.{join_with_byte}
-use Rattle.answers.specs.Faults.{Fault}
 use Rattle.answers.specs.Lines.{texts_of}
-use Rattle.answers.specs.declared.line.LineError.TheVariants.{OutOfMemory}
-use Rattle.answers.proofs.Faults.{hands_on}
 use Rattle.answers.proofs.Fields.{mark_and_rest, not_decided}
 use Rattle.answers.proofs.parse.parse_line.Goals as goal
 
-pub returns-in_err-words : goal.returns-in_err-words
-returns-in_err-words c =
-    let text = c.args.text.now in
-    let plain = not_decided _ _ (starts_char 35 text c.starts_with.result c.starts_with.ensures.cases (lit< tt) (lit< tt)) c.if-starts_with.false in
-    hands_on c.from_residual.result _ (Fault text) OutOfMemory c.from_residual.ensures.1 (plain, inl refl)
-
 pub returns : goal.returns
-returns c =
+returns g c =
     let text = c.args.text.now in
     let words = c.as_slice.result.now in
     let items = vec_items c.in_ok-words.words in

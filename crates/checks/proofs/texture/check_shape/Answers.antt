@@ -4,12 +4,6 @@ use Rattle.checks.proofs.Joins.{broke, broke_size, went_on, lifted_ok}
 use Rattle.checks.proofs.texture.check_shape.Goals as goal
 use Rattle.checks.specs.Checks.{as_dimension, dimension_checks, block_checks}
 
-pub returns-in_err-check_usage : goal.returns-in_err-check_usage
-returns-in_err-check_usage c =
-    let d = c.args.desc.now in
-    let v = c.args.device.now in
-    broke (usages d) (after_usage v d) _ _ c.from_residual.ensures.1 c.in_err-check_usage.ensures
-
 pub returns-in_err-check_texture_dimension_size :
     goal.returns-in_err-check_texture_dimension_size
 returns-in_err-check_texture_dimension_size c =

@@ -33,7 +33,7 @@ returns-in_err-check_format c =
     let e =
     went_on_answer (shape_checks v d) (after_shape v d) (listed d) _ _ c.in_ok-check_shape.ensures
     (went_on_answer (mip_checks d) (after_mips v d) (listed d) _ _ c.in_ok-check_mips.ensures
-    (broke_answer (format_checks v.features d) (after_format v d) (listed d) _ _ c.from_residual-in_err-check_format.ensures.1
+    (broke_answer (format_checks v.features.0 d) (after_format v d) (listed d) _ _ c.from_residual-in_err-check_format.ensures.1
     c.in_err-check_format.ensures))
     in
     record { value = e; webgpu = decided v d _ e }
@@ -45,7 +45,7 @@ returns c =
     let e =
     went_on_answer (shape_checks v d) (after_shape v d) (listed d) _ _ c.in_ok-check_shape.ensures
     (went_on_answer (mip_checks d) (after_mips v d) (listed d) _ _ c.in_ok-check_mips.ensures
-    (went_on_answer (format_checks v.features d) (after_format v d) (listed d) _ _ c.in_ok-check_format.ensures
+    (went_on_answer (format_checks v.features.0 d) (after_format v d) (listed d) _ _ c.in_ok-check_format.ensures
     c.check_view_formats.ensures))
     in
     record { value = e; webgpu = decided v d _ e }

@@ -3,24 +3,16 @@ use Rattle.checks.proofs.Joins.{refused_answer, passed_answer, value_answer}
 use Rattle.types.specs.Formats.{guaranteed_features}
 use Rattle.types.specs.declared.format_features.TextureFormatFeatures.{TextureFormatFeatures}
 use Rattle.view_checks.proofs.Answer.{refused, accepted}
-use Rattle.view_checks.proofs.Groups.{after_usage, after_ability, after_aspect, after_dimension, after_levels, past_usage, past_ability, past_aspect, past_dimension, past_levels}
+use Rattle.view_checks.proofs.Groups.{after_ability, after_aspect, after_dimension, after_levels, past_usage, past_ability, past_aspect, past_dimension, past_levels}
 use Rattle.view_checks.proofs.view.check_view_descriptor.Goals as goal
-use Rattle.view_checks.specs.Checks.{ability_checks, aspect_checks, dimension_checks, layer_checks, level_checks, usage_checks}
+use Rattle.view_checks.specs.Checks.{ability_checks, aspect_checks, dimension_checks, layer_checks, level_checks}
 use Rattle.view_checks.specs.Views.{view_uses}
-
-pub returns-in_err-check_usage : goal.returns-in_err-check_usage
-returns-in_err-check_usage c =
-    let v = c.resolve_view_descriptor-view.result in
-    let t = c.args.texture.now in
-    let n = c.args.device.now.features in
-    refused c.args.device.now t c.args.desc.now v c.resolve_view_descriptor-view.ensures _ (usage_checks t.usage v.usage) (after_usage n t v) _
-    c.from_residual.ensures.1 c.in_err-check_usage.ensures refl
 
 pub returns-in_err-format_features : goal.returns-in_err-format_features
 returns-in_err-format_features c =
     let v = c.resolve_view_descriptor-view.result in
     let t = c.args.texture.now in
-    let n = c.args.device.now.features in
+    let n = c.args.device.now.features.0 in
     refused c.args.device.now t c.args.desc.now v c.resolve_view_descriptor-view.ensures _ (ability_checks n v) (after_ability n t v) _
     c.from_residual-in_err-format_features.ensures.1
     (refused_answer (ability_checks n v) (guaranteed_features v.format n) _ c.in_err-format_features.ensures)
@@ -30,7 +22,7 @@ pub returns-in_err-check_aspect : goal.returns-in_err-check_aspect
 returns-in_err-check_aspect c =
     let v = c.resolve_view_descriptor-view.result in
     let t = c.args.texture.now in
-    let n = c.args.device.now.features in
+    let n = c.args.device.now.features.0 in
     let able = passed_answer (ability_checks n v) (guaranteed_features v.format n) _ c.in_ok-format_features.ensures in
     refused c.args.device.now t c.args.desc.now v c.resolve_view_descriptor-view.ensures _ (aspect_checks t v) (after_aspect n t v) _
     c.from_residual-in_err-check_aspect.ensures.1 c.in_err-check_aspect.ensures
@@ -40,7 +32,7 @@ pub returns-in_err-check_dimension : goal.returns-in_err-check_dimension
 returns-in_err-check_dimension c =
     let v = c.resolve_view_descriptor-view.result in
     let t = c.args.texture.now in
-    let n = c.args.device.now.features in
+    let n = c.args.device.now.features.0 in
     let able = passed_answer (ability_checks n v) (guaranteed_features v.format n) _ c.in_ok-format_features.ensures in
     refused c.args.device.now t c.args.desc.now v c.resolve_view_descriptor-view.ensures _ (dimension_checks n t v) (after_dimension n t v) _
     c.from_residual-in_err-check_dimension.ensures.1 c.in_err-check_dimension.ensures
@@ -50,7 +42,7 @@ pub returns-in_err-mips : goal.returns-in_err-mips
 returns-in_err-mips c =
     let v = c.resolve_view_descriptor-view.result in
     let t = c.args.texture.now in
-    let n = c.args.device.now.features in
+    let n = c.args.device.now.features.0 in
     let able = passed_answer (ability_checks n v) (guaranteed_features v.format n) _ c.in_ok-format_features.ensures in
     refused c.args.device.now t c.args.desc.now v c.resolve_view_descriptor-view.ensures _ (level_checks t v) (after_levels n t v) _
     c.from_residual-in_err-mips.ensures.1 c.in_err-mips.ensures.value
@@ -60,7 +52,7 @@ pub returns-in_err-layers : goal.returns-in_err-layers
 returns-in_err-layers c =
     let v = c.resolve_view_descriptor-view.result in
     let t = c.args.texture.now in
-    let n = c.args.device.now.features in
+    let n = c.args.device.now.features.0 in
     let able = passed_answer (ability_checks n v) (guaranteed_features v.format n) _ c.in_ok-format_features.ensures in
     let past =
     past_levels n t v c.in_ok-check_usage.ensures able c.in_ok-check_aspect.ensures c.in_ok-check_dimension.ensures
@@ -73,7 +65,7 @@ pub returns : goal.returns
 returns c =
     let v = c.resolve_view_descriptor-view.result in
     let t = c.args.texture.now in
-    let n = c.args.device.now.features in
+    let n = c.args.device.now.features.0 in
     let answer = c.in_ok-format_features.ensures in
     let able = passed_answer (ability_checks n v) (guaranteed_features v.format n) _ answer in
     let past =
@@ -93,6 +85,6 @@ returns c =
       hal_format = c.hal_format.ensures;
       hal_usage =
           c.hal_usage.ensures
-          ∙ ap (λ (row : TextureFormatFeatures). view_uses v row.flags) (value_answer (ability_checks n v) (guaranteed_features v.format n) _ answer);
+          ∙ ap (λ (row : TextureFormatFeatures). view_uses v row.flags.0) (value_answer (ability_checks n v) (guaranteed_features v.format n) _ answer);
       render_extent = c.render_extent.ensures;
     })

@@ -1,0 +1,7 @@
+// Stored answers of a WebGPU implementation, judged by the checks.
+#![tactic(auto)]
+
+pub mod judge;
+pub mod report;
+pub mod tally;
+pub mod verdict;
