@@ -1,5 +1,6 @@
 // Every format in every dimension with every usage.
-use crate::requests::{SAMPLED, refusal};
+use crate::refusal;
+use crate::requests::SAMPLED;
 use types::bits::BitSet;
 use types::capabilities::Capabilities;
 use types::descriptor::TextureDescriptor;
