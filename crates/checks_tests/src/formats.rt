@@ -1,7 +1,6 @@
 // Every format in every dimension with every usage.
 use crate::refusal;
 use crate::requests::SAMPLED;
-use types::bits::BitSet;
 use types::capabilities::Capabilities;
 use types::descriptor::TextureDescriptor;
 use types::dimension::TextureDimension;
