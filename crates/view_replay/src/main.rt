@@ -34,6 +34,7 @@ fn main(rt: HostRuntime) -> anyhow::Result<()> {
     run(&rt)
 }
 
+// As in `replay`, for two kinds of answer.
 fn run(rt: &HostRuntime) -> anyhow::Result<()> {
     let text = fs::read_to_string(rt, ANSWERS)?;
     let verdicts = replay(rt, text.as_str())?;
