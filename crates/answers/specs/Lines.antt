@@ -12,9 +12,9 @@ use Rattle.answers.specs.declared.line.AnyAnswer.{AnyAnswer}
 use Rattle.answers.specs.declared.line.AnyAnswer.TheVariants.{Texture, View}
 use Rattle.answers.specs.declared.line.Line.{Line}
 use Rattle.answers.specs.declared.line.Line.TheVariants.{Comment, Features, Answer}
-use Rattle.answers.specs.declared.line.TextureAnswer.{TextureAnswer}
+use Rattle.answers.specs.declared.line.StoredAnswer.{StoredAnswer}
 use Rattle.answers.specs.declared.line.TextureRequest.{TextureRequest}
-use Rattle.answers.specs.declared.line.ViewAnswer.{ViewAnswer}
+use Rattle.types.specs.declared.view_descriptor.TextureViewDescriptor.{TextureViewDescriptor}
 
 -- what the words of a slice hold
 abbrev pub texts_of : List (Bor (List ℕ)) → List (List ℕ)
@@ -44,7 +44,7 @@ answer_word true = codes "yes"
 answer_word false = codes "no"
 
 -- the words of a request, and then the one for its answer
-abbrev pub Answered : List (List ℕ) → TextureAnswer → Type 0
+abbrev pub Answered : List (List ℕ) → StoredAnswer TextureRequest → Type 0
 Answered words a =
     (fields : List (List ℕ)) × (words ≡ fields ++ answer_word a.accepted ∷ []) × Write fields (numbers_of a.request)
 
@@ -66,7 +66,7 @@ IsAspect word Plane0 = ⊥
 IsAspect word Plane1 = ⊥
 
 -- the nine words of a view's request and of its answer
-pub record ViewAnswered (words : List (List ℕ)) (a : ViewAnswer) : Type 0 where
+pub record ViewAnswered (words : List (List ℕ)) (a : StoredAnswer TextureViewDescriptor) : Type 0 where
   pub nine : length words ≡ 9
   pub format : Omittable (λ word f. Number word (code_of f)) (slice_index_or words 0 []) a.request.format
   pub dimension : Omittable (λ word d. Number word (view_dimension_code d)) (slice_index_or words 1 []) a.request.dimension
@@ -79,7 +79,7 @@ pub record ViewAnswered (words : List (List ℕ)) (a : ViewAnswer) : Type 0 wher
   pub answer : slice_index_or words 8 [] ≡ answer_word a.accepted
 
 -- what the fields after a mark say where a file has answers on textures alone
-abbrev pub TextureSays : List ℕ → List (List ℕ) → TextureAnswer → Type 0
+abbrev pub TextureSays : List ℕ → List (List ℕ) → StoredAnswer TextureRequest → Type 0
 TextureSays mark fields a = (mark ≡ codes "T") × Answered fields a
 
 -- what they say where it has answers on views too

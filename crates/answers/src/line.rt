@@ -34,10 +34,15 @@ pub trait Answer: Sized + Drop {
 
 // A request, and whether the implementation accepted it.
 #[derive(Drop)]
-pub struct TextureAnswer {
-    pub request: TextureRequest,
+pub struct StoredAnswer<R> {
+    pub request: R,
     pub accepted: bool,
 }
+
+pub type TextureAnswer = StoredAnswer<TextureRequest>;
+
+// The view is one of the texture that was last made.
+pub type ViewAnswer = StoredAnswer<TextureViewDescriptor>;
 
 #[derive(Drop)]
 pub struct TextureRequest {
@@ -48,13 +53,6 @@ pub struct TextureRequest {
     pub format: TextureFormat,
     pub usage: TextureUsages,
     pub view_formats: Vec<TextureFormat>,
-}
-
-// A request for a view of the texture that was last made, and whether it was accepted.
-#[derive(Clone, Copy)]
-pub struct ViewAnswer {
-    pub request: TextureViewDescriptor,
-    pub accepted: bool,
 }
 
 // An answer of either kind.

@@ -31,7 +31,7 @@ fn marked_line<A: Answer>(heap: Global, mark: &str, fields: &[&str]) -> Result<L
     ensures { MatchResult result (λ line. WordsSay A.says mark.now (texts_of fields.now) line) (λ error. WordsFault A.fault mark.now (texts_of fields.now) error) }
 {
     match mark {
-        "F" => Ok(Line::Features(Features(features(fields)?))),
+        "F" => Ok(Line::Features(features(fields)?)),
         _ => Ok(Line::Answer(A::from_fields(heap, mark, fields)?)),
     }
 }
@@ -64,13 +64,13 @@ impl Answer for AnyAnswer {
     }
 }
 
-fn features(words: &[&str]) -> Result<u32, LineError>
-    ensures { MatchResult result (λ features. Write (texts_of words.now) (features ∷ [])) (λ error. FeaturesFault (texts_of words.now) error) }
+fn features(words: &[&str]) -> Result<Features, LineError>
+    ensures { MatchResult result (λ features. Write (texts_of words.now) (features.0 ∷ [])) (λ error. FeaturesFault (texts_of words.now) error) }
 {
     let [word] = words else {
         return Err(LineError::WrongFieldCount);
     };
-    number(word)
+    Ok(Features(number(word)?))
 }
 
 fn texture_answer(heap: Global, words: &[&str]) -> Result<TextureAnswer, LineError>
@@ -168,10 +168,7 @@ fn view_answer(words: &[&str]) -> Result<ViewAnswer, LineError>
 fn optional_code<C: Coded>(word: &str) -> Result<Option<C>, LineError>
     ensures { MatchResult result (λ value. Omittable (λ w v. Number w (C.number_of v)) word.now value) (λ error. WordFault (CodeFault C.stands_for_nothing C.unknown_code) word.now error) }
 {
-    match optional_number(word)? {
-        Some(code) => Ok(Some(decode(code)?)),
-        None => Ok(None),
-    }
+    optional_number(word)?.map(|code| decode(code)).transpose()
 }
 
 fn optional_number(word: &str) -> Result<Option<u32>, LineError>

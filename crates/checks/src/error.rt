@@ -48,7 +48,7 @@ pub enum TextureDimensionError {
     MultisampledDepthOrArrayLayer(u32),
 }
 
-// The downlevel flags that were required and that the device has not all.
+// The downlevel flags that were required and that the device has not all: wgpu's error, as for features.
 #[derive(Clone, Copy, Debug, PartialEq, Eq)]
 pub struct MissingDownlevelFlags(pub DownlevelFlags);
 

@@ -22,7 +22,7 @@ pub trait Refusal {
 }
 
 // What a refusal carries, as numbers: a format by its code, a side as 1 to 3, a dimension as 1 to 3, a yes as 1. None to three of
-// them, held here and not on the heap, since nothing may allocate on the path of a call.
+// them, held here and not on the heap, since nothing may allocate on the path of a call, and with no place left over to fill.
 #[derive(Clone, Copy, Debug, PartialEq, Eq)]
 pub enum Values {
     Nothing,

@@ -1,5 +1,5 @@
-// The checks of a texture request, one group after the other: the first refusal is the answer. A group takes what it reads and
-// no more, so that its signature says what its refusals can depend on.
+// The checks of a texture request, one group after the other: the first refusal is the answer. A group takes the records
+// that it reads, and the features only where it asks for one, so that its signature says what its refusals can depend on.
 ghost use Rattle.std.specs.Prelude.{◌≡◌, ◌↔◌, not, IsTrue};
 ghost use Rattle.checks.specs.Check.{outcome, answered};
 ghost use Rattle.checks.specs.Checks.{feature_checks, shape_checks, mip_checks, format_checks, create_checks, is_twin_listed};

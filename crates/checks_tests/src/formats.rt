@@ -1,6 +1,6 @@
 // Every format in every dimension with every usage.
-use crate::requests::{SAMPLED, refusal};
-use types::bits::BitSet;
+use crate::refusal;
+use crate::requests::SAMPLED;
 use types::capabilities::Capabilities;
 use types::descriptor::TextureDescriptor;
 use types::dimension::TextureDimension;

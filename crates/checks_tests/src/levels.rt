@@ -1,5 +1,6 @@
 // The level count: the binary digits of the largest side, and depth is a side in 3D alone.
-use crate::requests::{SAMPLED, refusal};
+use crate::refusal;
+use crate::requests::SAMPLED;
 use types::capabilities::Capabilities;
 use types::descriptor::TextureDescriptor;
 use types::dimension::TextureDimension;

@@ -1,9 +1,4 @@
-// The request that the tests start from, and how one is refused.
-use checks::refusal::{Refusal, Values};
-use checks::texture::check_texture_descriptor;
-use std::process::Abort;
-use std::test::Fail;
-use types::capabilities::Capabilities;
+// The request that the tests start from.
 use types::descriptor::TextureDescriptor;
 use types::dimension::TextureDimension;
 use types::extent::Extent3d;
@@ -23,25 +18,3 @@ pub(crate) const SAMPLED: TextureDescriptor<'static> = TextureDescriptor {
     usage: TextureUsages::TEXTURE_BINDING,
     view_formats: &[],
 };
-
-// The number of the refusal, if there is one.
-pub(crate) fn refusal(device: &Capabilities, desc: &TextureDescriptor) -> Option<u32> {
-    check_texture_descriptor(device, desc)
-        .err()
-        .map(|error| error.number())
-}
-
-pub(crate) fn check_refused(
-    rt: &impl Abort,
-    device: &Capabilities,
-    desc: &TextureDescriptor,
-    number: u32,
-    values: Values,
-) -> Result<(), Fail> {
-    let Err(error) = check_texture_descriptor(device, desc) else {
-        return Err(Fail::new("a request that breaks a rule is accepted"));
-    };
-    assert_eq!(rt; error.number(), number);
-    assert_eq!(rt; error.values(), values, "of refusal {number}");
-    Ok(())
-}

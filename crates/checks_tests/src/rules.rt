@@ -1,5 +1,6 @@
 // One request for each rule, with the number and the values that its refusal carries, worked out by hand.
-use crate::requests::{SAMPLED, check_refused};
+use crate::check_refused;
+use crate::requests::SAMPLED;
 use checks::refusal::Values;
 use std::test::Fail;
 use types::capabilities::Capabilities;

@@ -1,5 +1,6 @@
 // Sample counts: powers of two up to 32 in 2D are looked at, one and four are taken.
-use crate::requests::{SAMPLED, check_refused, refusal};
+use crate::requests::SAMPLED;
+use crate::{check_refused, refusal};
 use checks::refusal::Values;
 use std::test::Fail;
 use types::capabilities::Capabilities;

@@ -1,5 +1,6 @@
 // Each side against its limit.
-use crate::requests::{SAMPLED, refusal};
+use crate::refusal;
+use crate::requests::SAMPLED;
 use checks::error::TextureErrorDimension as Side;
 use types::capabilities::Capabilities;
 use types::descriptor::TextureDescriptor;

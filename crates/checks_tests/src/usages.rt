@@ -1,5 +1,6 @@
 // Usages: none, unknown ones, and those of transient attachments.
-use crate::requests::{SAMPLED, refusal};
+use crate::refusal;
+use crate::requests::SAMPLED;
 use types::capabilities::Capabilities;
 use types::descriptor::TextureDescriptor;
 use types::usages::TextureUsages;

@@ -1,5 +1,6 @@
 // View formats: the format itself and its twin.
-use crate::requests::{SAMPLED, refusal};
+use crate::refusal;
+use crate::requests::SAMPLED;
 use checks::texture::check_texture_descriptor;
 use types::capabilities::Capabilities;
 use types::descriptor::TextureDescriptor;

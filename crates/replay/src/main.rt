@@ -7,18 +7,8 @@ use std::fs;
 use thiserror::Error;
 use types::capabilities::Capabilities;
 use verdicts::judge::judge_texture;
-use verdicts::report::{Names, print_tally};
+use verdicts::report::{ANSWERS, Differences, print_tally};
 use verdicts::verdict::Verdict;
-
-const ANSWERS: &str = "webgpu-dawn.txt";
-
-// Of the answers that differ, at most so many are printed.
-const MOST_SHOWN: usize = 20;
-
-const NAMES: Names = Names {
-    before: "",
-    answers: "answers",
-};
 
 #[derive(Debug, Drop, Error)]
 enum ReplayError {
@@ -40,20 +30,20 @@ fn run(rt: &HostRuntime) -> anyhow::Result<()> {
     if verdicts.is_empty() {
         return Err(ReplayError::NoAnswers.into());
     }
-    let differing = print_tally(rt, NAMES, verdicts.as_slice())?;
+    let differing = print_tally(rt, None, verdicts.as_slice())?;
     if differing > 0 {
         return Err(ReplayError::Differing(differing).into());
     }
     Ok(())
 }
 
-// The verdicts on the answers in the text, in their order. The loop is this program's own: the one of `view_replay` differs from it
-// in all that it does with an answer.
+// The verdicts on the answers in the text, in their order. `view_replay` has a loop of its own, since there a view needs the texture
+// before it, and each kind of answer has its own verdicts.
 fn replay(rt: &HostRuntime, text: &str) -> anyhow::Result<Vec<Verdict>> {
     let heap = rt.alloc();
     let mut device = Capabilities::DEFAULT;
     let mut verdicts = Vec::new(heap);
-    let mut shown = 0;
+    let mut differences = Differences::new();
     for (index, text) in text.lines().enumerate() {
         let number = index + 1;
         let line = parse_line::<TextureAnswer>(heap, text).map_err(
@@ -67,10 +57,7 @@ fn replay(rt: &HostRuntime, text: &str) -> anyhow::Result<Vec<Verdict>> {
             Line::Features(features) => device.features = features,
             Line::Answer(answer) => {
                 let verdict = judge_texture(&device, &answer).verdict;
-                if verdict.is_difference() && shown < MOST_SHOWN {
-                    println!(rt; "line {number} differs: {text}")?;
-                    shown += 1;
-                }
+                differences.print(rt, number, text, verdict)?;
                 verdicts.push(verdict)?;
             }
         }

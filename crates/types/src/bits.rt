@@ -3,7 +3,7 @@
 ghost use Rattle.std.specs.Prelude.{◌≡◌, ◌==◌, ◌≤◌, ℕ, bit_and, bit_or};
 ghost use Rattle.types.specs.Bits.{contains, intersects, difference, map_bit};
 
-// The kinds are tuple structs with an impl of two lines, and not one struct over a parameter: only so can a constant write
+// The kinds are tuple structs with a short impl each, and not one struct over a parameter: only so can a constant write
 // `TextureUsages(4)`.
 pub trait BitSet: Copy {
     ghost bits_of: { Self → ℕ };

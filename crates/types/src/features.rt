@@ -41,7 +41,7 @@ impl BitSet for Features {
     }
 }
 
-// The features that were required and that the device has not all.
+// The features that were required and that the device has not all: wgpu's error, which has a like one for downlevel flags.
 #[derive(Clone, Copy, Debug, PartialEq, Eq)]
 pub struct MissingFeatures(pub Features);
 

@@ -99,11 +99,9 @@ impl TextureFormat {
     fn stencil_part(self) -> Option<TextureFormat>
         ensures { result ≡ part_of self StencilOnly }
     {
-        if self.aspects().contains(FormatAspects::STENCIL) {
-            Some(TextureFormat::Stencil8)
-        } else {
-            None
-        }
+        self.aspects()
+            .contains(FormatAspects::STENCIL)
+            .then_some(TextureFormat::Stencil8)
     }
 
     pub fn is_depth_stencil_format(self) -> bool
@@ -143,11 +141,7 @@ impl TextureFormat {
     pub fn planes(self) -> Option<u32>
         ensures { result ≡ planes_of self }
     {
-        if self.is_multi_planar_format() {
-            Some(2)
-        } else {
-            None
-        }
+        self.is_multi_planar_format().then_some(2)
     }
 
     // What WebGPU guarantees of the format on a device with these features. No row depends on them.

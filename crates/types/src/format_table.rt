@@ -294,7 +294,7 @@ const FORMATS: [FormatRow; 22] = [
     },
 ];
 
-// One table, and not a constant for each row with a `match` over them, which would name each format a third time.
+// One constant table, so that the rows stand below one another as in the documents that they are taken from.
 impl TextureFormat {
     pub fn row(self) -> &'static FormatRow
         ensures { result.now ≡ row_of self }

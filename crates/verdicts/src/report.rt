@@ -1,34 +1,65 @@
-// The counts of a run, as they are printed.
-ghost use Rattle.std.specs.Prelude.{◌≡◌, count_by, IfOk};
+// What is printed of a run: lines whose answers differ, and the counts.
+ghost use Rattle.std.specs.Prelude.{◌≡◌, ◌+◌, ◌&&◌, count_by, if◌then◌else◌, nat_lt, IfOk};
 ghost use Rattle.verdicts.specs.Verdicts.{differs};
 
 use crate::tally::{refused_with, totals_of};
 use crate::verdict::Verdict;
 use std::io;
 
+// The file of answers, where a program runs.
+pub const ANSWERS: &str = "webgpu-dawn.txt";
+
+// Of the answers that differ, at most so many are printed.
+const MOST_SHOWN: usize = 20;
+
 // The numbers of the refusals of textures and of views lie from the one to the other.
 const FIRST_REFUSAL: u32 = 3;
 
 const LAST_REFUSAL: u32 = 48;
 
-// How the first and the last line name what was compared.
-#[derive(Clone, Copy, Debug)]
-pub struct Names {
-    pub before: &'static str,
-    pub answers: &'static str,
+// How many lines whose answers differ were printed.
+#[derive(Clone, Copy, Debug, PartialEq, Eq)]
+pub struct Differences {
+    pub shown: usize,
 }
 
-// Prints how many verdicts there are of each kind, and answers how many tell of a difference.
-pub fn print_tally(rt: &impl Print, names: Names, verdicts: &[Verdict]) -> io::Result<usize>
+impl Differences {
+    pub fn new() -> Self
+        ensures { result.shown ≡ 0 }
+    {
+        Differences { shown: 0 }
+    }
+
+    // Prints the line where its verdict tells of a difference, as long as not too many were printed.
+    pub fn print(
+        &mut self,
+        rt: &impl Print,
+        number: usize,
+        text: &str,
+        verdict: Verdict,
+    ) -> io::Result<()>
+        ensures { IfOk result (λ _. self.new.shown ≡ (if differs verdict && nat_lt self.old.shown 20 then self.old.shown + 1 else self.old.shown)) }
+    {
+        if verdict.is_difference() && self.shown < MOST_SHOWN {
+            println!(rt; "line {number} differs: {text}")?;
+            self.shown += 1;
+        }
+        Ok(())
+    }
+}
+
+// Prints how many verdicts there are of each kind, and answers how many tell of a difference. The kind of requests is named where
+// a program has more than one.
+pub fn print_tally(rt: &impl Print, kind: Option<&str>, verdicts: &[Verdict]) -> io::Result<usize>
     ensures { IfOk result (λ differing. differing ≡ count_by differs verdicts.now) }
 {
     let totals = totals_of(verdicts);
     let accepted = totals.accepted;
     let refused = totals.refused;
-    println!(rt;
-        "{}{accepted} accepted by both, {refused} refused by both",
-        names.before
-    )?;
+    if let Some(kind) = kind {
+        print!(rt; "{kind} requests: ")?;
+    }
+    println!(rt; "{accepted} accepted by both, {refused} refused by both")?;
     for number in FIRST_REFUSAL..=LAST_REFUSAL {
         let count = refused_with(verdicts, number);
         if count > 0 {
@@ -38,9 +69,10 @@ pub fn print_tally(rt: &impl Print, names: Names, verdicts: &[Verdict]) -> io::R
     let compared = verdicts.len();
     let agreeing = accepted + refused;
     let differing = totals.differing;
-    println!(rt;
-        "{compared} {} compared, {agreeing} agree, {differing} differ",
-        names.answers
-    )?;
+    print!(rt; "{compared} ")?;
+    if let Some(kind) = kind {
+        print!(rt; "{kind} ")?;
+    }
+    println!(rt; "answers compared, {agreeing} agree, {differing} differ")?;
     Ok(differing)
 }

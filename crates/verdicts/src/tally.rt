@@ -18,7 +18,7 @@ pub fn totals_of(verdicts: &[Verdict]) -> Totals
     ensures differing { result.differing ≡ count_by differs verdicts.now }
     ensures all { result.accepted + result.refused + result.differing ≡ length verdicts.now }
 {
-    // a loop and not a chain for each count: with chains it was not proved that the counts add up to all
+    // one walk for the three counts; with a chain for each it was not proved that they add up to all
     let mut totals = Totals {
         accepted: 0,
         refused: 0,

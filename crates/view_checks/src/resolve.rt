@@ -84,10 +84,7 @@ fn own_dimension(texture: &Texture) -> TextureViewDimension
 fn resolve_usage(texture: TextureUsages, usage: Option<TextureUsages>) -> TextureUsages
     ensures { result ≡ filled_usage texture usage }
 {
-    match usage {
-        Some(usage) if !usage.is_empty() => usage,
-        _ => texture,
-    }
+    usage.filter(|usage| !usage.is_empty()).unwrap_or(texture)
 }
 
 // Every level from the first one on.

@@ -1,5 +1,6 @@
 // The checks of a view request, one group after the other: the first refusal is the answer, else the view worked out. A group
-// takes what it reads and no more, so that its signature says what its refusals can depend on.
+// takes the records that it reads, and the features only where it asks for one, so that its signature says what its refusals can
+// depend on.
 ghost use Rattle.std.specs.Prelude.{◌≡◌, ◌↔◌, false, not, IfOk, IsTrue};
 ghost use Rattle.checks.specs.Check.{as_outcome, outcome};
 ghost use Rattle.types.specs.Bits.{contains};

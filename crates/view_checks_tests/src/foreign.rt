@@ -1,5 +1,6 @@
 // Textures that no request makes: a record can come from elsewhere.
-use crate::requests::{WHOLE, WHOLE_RANGE, refusal, viewed};
+use crate::requests::{WHOLE, WHOLE_RANGE};
+use crate::{refusal, viewed};
 use std::test::Fail;
 use types::capabilities::Capabilities;
 use types::dimension::{TextureDimension, TextureViewDimension};

@@ -1,5 +1,6 @@
 // What the host is told of a view: format and usages; and the aspects that the view selects.
-use crate::requests::{FACES, IMAGE, WHOLE, WHOLE_RANGE, accepted, viewed, with_features};
+use crate::requests::{FACES, IMAGE, WHOLE, WHOLE_RANGE};
+use crate::{accepted, viewed, with_features};
 use std::process::Abort;
 use std::test::Fail;
 use types::aspect::{FormatAspects, TextureAspect};

@@ -1,5 +1,6 @@
 // Omitted fields of a view, and what they are filled in with.
-use crate::requests::{FACES, IMAGE, WHOLE, WHOLE_RANGE, accepted, with_features};
+use crate::requests::{FACES, IMAGE, WHOLE, WHOLE_RANGE};
+use crate::{accepted, with_features};
 use std::process::Abort;
 use std::test::Fail;
 use types::aspect::TextureAspect;

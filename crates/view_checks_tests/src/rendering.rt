@@ -1,5 +1,6 @@
 // How large a view is when it is rendered to, or why it cannot be.
-use crate::requests::{FACES, IMAGE, WHOLE, WHOLE_RANGE, accepted, viewed, with_features};
+use crate::requests::{FACES, IMAGE, WHOLE, WHOLE_RANGE};
+use crate::{accepted, viewed, with_features};
 use std::process::Abort;
 use std::test::Fail;
 use types::aspect::{FormatAspects, TextureAspect};

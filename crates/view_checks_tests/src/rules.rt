@@ -1,5 +1,6 @@
 // One view or more for each rule, with the number and the values that its refusal carries, worked out by hand.
-use crate::requests::{FACES, IMAGE, WHOLE, WHOLE_RANGE, accepted, with_features};
+use crate::requests::{FACES, IMAGE, WHOLE, WHOLE_RANGE};
+use crate::{accepted, with_features};
 use checks::refusal::{Refusal, Values};
 use std::process::Abort;
 use std::test::Fail;

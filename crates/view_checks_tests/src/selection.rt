@@ -1,5 +1,6 @@
 // Which views of one texture select the same of it.
-use crate::requests::{FACES, IMAGE, WHOLE, WHOLE_RANGE, accepted, viewed};
+use crate::requests::{FACES, IMAGE, WHOLE, WHOLE_RANGE};
+use crate::{accepted, viewed};
 use std::test::Fail;
 use types::aspect::TextureAspect;
 use types::capabilities::Capabilities;

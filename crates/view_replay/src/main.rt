@@ -7,24 +7,10 @@ use std::fs;
 use thiserror::Error;
 use types::capabilities::Capabilities;
 use verdicts::judge::{judge_texture, judge_view};
-use verdicts::report::{Names, print_tally};
+use verdicts::report::{ANSWERS, Differences, print_tally};
 use verdicts::verdict::Verdict;
 
-const ANSWERS: &str = "webgpu-dawn.txt";
-
-// Of the answers that differ, at most so many are printed.
-const MOST_SHOWN: usize = 20;
-
-const TEXTURES: Names = Names {
-    before: "texture requests: ",
-    answers: "texture answers",
-};
-
-const VIEWS: Names = Names {
-    before: "view requests: ",
-    answers: "view answers",
-};
-
+// The errors of `replay` say less: it has one kind of answer.
 #[derive(Debug, Drop, Error)]
 enum ReplayError {
     #[error("line {line} is malformed: {error:?}")]
@@ -48,20 +34,22 @@ fn main(rt: HostRuntime) -> anyhow::Result<()> {
     run(&rt)
 }
 
+// As in `replay`, for two kinds of answer.
 fn run(rt: &HostRuntime) -> anyhow::Result<()> {
     let text = fs::read_to_string(rt, ANSWERS)?;
     let verdicts = replay(rt, text.as_str())?;
     if verdicts.textures.is_empty() || verdicts.views.is_empty() {
         return Err(ReplayError::NoAnswers.into());
     }
-    let textures = print_tally(rt, TEXTURES, verdicts.textures.as_slice())?;
-    let views = print_tally(rt, VIEWS, verdicts.views.as_slice())?;
+    let textures = print_tally(rt, Some("texture"), verdicts.textures.as_slice())?;
+    let views = print_tally(rt, Some("view"), verdicts.views.as_slice())?;
     if textures > 0 || views > 0 {
         return Err(ReplayError::Differing { textures, views }.into());
     }
     Ok(())
 }
 
+// The loop of `replay`, with the texture that a view needs and verdicts for each kind of answer.
 fn replay(rt: &HostRuntime, text: &str) -> anyhow::Result<Verdicts> {
     let heap = rt.alloc();
     let mut device = Capabilities::DEFAULT;
@@ -71,7 +59,7 @@ fn replay(rt: &HostRuntime, text: &str) -> anyhow::Result<Verdicts> {
         textures: Vec::new(heap),
         views: Vec::new(heap),
     };
-    let mut shown = 0;
+    let mut differences = Differences::new();
     for (index, text) in text.lines().enumerate() {
         let number = index + 1;
         let line = parse_line(heap, text).map_err(|error| ReplayError::Malformed {
@@ -99,10 +87,7 @@ fn replay(rt: &HostRuntime, text: &str) -> anyhow::Result<Verdicts> {
                 verdict
             }
         };
-        if verdict.is_difference() && shown < MOST_SHOWN {
-            println!(rt; "line {number} differs: {text}")?;
-            shown += 1;
-        }
+        differences.print(rt, number, text, verdict)?;
     }
     Ok(verdicts)
 }
