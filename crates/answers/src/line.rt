@@ -44,6 +44,8 @@ pub type TextureAnswer = StoredAnswer<TextureRequest>;
 // The view is one of the texture that was last made.
 pub type ViewAnswer = StoredAnswer<TextureViewDescriptor>;
 
+// What a descriptor asks for, with view formats of its own: a descriptor over a parameter would put the kind of list into the
+// signature of every check.
 #[derive(Drop)]
 pub struct TextureRequest {
     pub size: Extent3d,
