@@ -1,5 +1,5 @@
 // What is printed of a run: lines whose answers differ, and the counts.
-ghost use Rattle.std.specs.Prelude.{◌≡◌, ◌+◌, ◌&&◌, count_by, if◌then◌else◌, nat_lt, IfOk};
+ghost use Rattle.std.specs.Prelude.{◌≡◌, ◌+◌, ◌&&◌, count_by, if◌then◌else◌, nat_lt, IfOk, OnErr};
 ghost use Rattle.verdicts.specs.Verdicts.{differs};
 
 use crate::tally::{refused_with, totals_of};
@@ -38,7 +38,8 @@ impl Differences {
         text: &str,
         verdict: Verdict,
     ) -> io::Result<()>
-        ensures { IfOk result (λ _. self.new.shown ≡ (if differs verdict && nat_lt self.old.shown 20 then self.old.shown + 1 else self.old.shown)) }
+        ensures ok { IfOk result (λ _. self.new.shown ≡ (if differs verdict && nat_lt self.old.shown 20 then self.old.shown + 1 else self.old.shown)) }
+        ensures err { OnErr result (self.new.shown ≡ self.old.shown) }
     {
         if verdict.is_difference() && self.shown < MOST_SHOWN {
             println!(rt; "line {number} differs: {text}")?;
