@@ -1,5 +1,5 @@
 // What a file of answers writes as a number: formats and dimensions.
-ghost use Rattle.std.specs.Prelude.{◌≡◌, ℕ, MatchOption, MatchResult};
+ghost use Rattle.std.specs.Prelude.{◌≡◌, ℕ, IfOk, IfSome, MatchOption, MatchResult};
 ghost use Rattle.types.specs.Dimension.{dimension_code, view_dimension_code};
 ghost use Rattle.types.specs.Format.{code_of};
 ghost use Rattle.answers.specs.Faults.{NoDimension, NoFormat, NoViewDimension};
@@ -21,7 +21,8 @@ pub trait Coded: Sized {
     ghost unknown_code: { ℕ → LineError };
 
     fn from_code(code: u32) -> Option<Self>
-        ensures { MatchOption result (stands_for_nothing code) (λ value. number_of value ≡ code) };
+        ensures value { MatchOption result (stands_for_nothing code) (λ value. number_of value ≡ code) }
+        ensures only { IfSome result (λ _. stands_for_nothing code → ⊥) };
 
     fn unknown(code: u32) -> LineError
         ensures { result ≡ unknown_code code };
@@ -82,7 +83,8 @@ impl Coded for TextureViewDimension {
 
 // The value with this number.
 pub fn decode<C: Coded>(code: u32) -> Result<C, LineError>
-    ensures { MatchResult result (λ value. C.number_of value ≡ code) (λ error. (error ≡ C.unknown_code code) × C.stands_for_nothing code) }
+    ensures value { MatchResult result (λ value. C.number_of value ≡ code) (λ error. (error ≡ C.unknown_code code) × C.stands_for_nothing code) }
+    ensures only { IfOk result (λ _. C.stands_for_nothing code → ⊥) }
 {
     C::from_code(code).ok_or(C::unknown(code))
 }
