@@ -7,7 +7,7 @@ use std::fs;
 use thiserror::Error;
 use types::capabilities::Capabilities;
 use verdicts::judge::judge_texture;
-use verdicts::report::{ANSWERS, Differences, print_tally};
+use verdicts::report::{ANSWERS, Differences, LAST_TEXTURE_REFUSAL, print_tally};
 use verdicts::verdict::Verdict;
 
 #[derive(Debug, Drop, Error)]
@@ -30,7 +30,7 @@ fn run(rt: &HostRuntime) -> anyhow::Result<()> {
     if verdicts.is_empty() {
         return Err(ReplayError::NoAnswers.into());
     }
-    let differing = print_tally(rt, None, verdicts.as_slice())?;
+    let differing = print_tally(rt, None, LAST_TEXTURE_REFUSAL, verdicts.as_slice())?;
     if differing > 0 {
         return Err(ReplayError::Differing(differing).into());
     }

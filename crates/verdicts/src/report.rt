@@ -12,10 +12,12 @@ pub const ANSWERS: &str = "webgpu-dawn.txt";
 // Of the answers that differ, at most so many are printed.
 const MOST_SHOWN: usize = 20;
 
-// The numbers of the refusals of textures and of views lie from the one to the other.
+// The numbers of the refusals of textures, and those of views, lie from the first to the last of their kind.
 const FIRST_REFUSAL: u32 = 3;
 
-const LAST_REFUSAL: u32 = 48;
+pub const LAST_TEXTURE_REFUSAL: u32 = 27;
+
+pub const LAST_VIEW_REFUSAL: u32 = 48;
 
 // How many lines whose answers differ were printed.
 #[derive(Clone, Copy, Debug, PartialEq, Eq)]
@@ -50,18 +52,25 @@ impl Differences {
 }
 
 // Prints how many verdicts there are of each kind, and answers how many tell of a difference. The kind of requests is named where
-// a program has more than one.
-pub fn print_tally(rt: &impl Print, kind: Option<&str>, verdicts: &[Verdict]) -> io::Result<usize>
+// a program has more than one; no number beyond the last refusal is looked for. Each line is printed as a whole.
+pub fn print_tally(
+    rt: &impl Print,
+    kind: Option<&str>,
+    last_refusal: u32,
+    verdicts: &[Verdict],
+) -> io::Result<usize>
     ensures { IfOk result (λ differing. differing ≡ count_by differs verdicts.now) }
 {
     let totals = totals_of(verdicts);
     let accepted = totals.accepted;
     let refused = totals.refused;
-    if let Some(kind) = kind {
-        print!(rt; "{kind} requests: ")?;
+    match kind {
+        Some(kind) => {
+            println!(rt; "{kind} requests: {accepted} accepted by both, {refused} refused by both")?
+        }
+        None => println!(rt; "{accepted} accepted by both, {refused} refused by both")?,
     }
-    println!(rt; "{accepted} accepted by both, {refused} refused by both")?;
-    for number in FIRST_REFUSAL..=LAST_REFUSAL {
+    for number in FIRST_REFUSAL..=last_refusal {
         let count = refused_with(verdicts, number);
         if count > 0 {
             println!(rt; "refusal {number}: {count}")?;
@@ -70,10 +79,13 @@ pub fn print_tally(rt: &impl Print, kind: Option<&str>, verdicts: &[Verdict]) ->
     let compared = verdicts.len();
     let agreeing = accepted + refused;
     let differing = totals.differing;
-    print!(rt; "{compared} ")?;
-    if let Some(kind) = kind {
-        print!(rt; "{kind} ")?;
+    match kind {
+        Some(kind) => {
+            println!(rt;
+                "{compared} {kind} answers compared, {agreeing} agree, {differing} differ"
+            )?
+        }
+        None => println!(rt; "{compared} answers compared, {agreeing} agree, {differing} differ")?,
     }
-    println!(rt; "answers compared, {agreeing} agree, {differing} differ")?;
     Ok(differing)
 }

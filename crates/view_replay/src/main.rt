@@ -7,7 +7,9 @@ use std::fs;
 use thiserror::Error;
 use types::capabilities::Capabilities;
 use verdicts::judge::{judge_texture, judge_view};
-use verdicts::report::{ANSWERS, Differences, print_tally};
+use verdicts::report::{
+    ANSWERS, Differences, LAST_TEXTURE_REFUSAL, LAST_VIEW_REFUSAL, print_tally,
+};
 use verdicts::verdict::Verdict;
 
 // The errors of `replay` say less: it has one kind of answer.
@@ -41,8 +43,18 @@ fn run(rt: &HostRuntime) -> anyhow::Result<()> {
     if verdicts.textures.is_empty() || verdicts.views.is_empty() {
         return Err(ReplayError::NoAnswers.into());
     }
-    let textures = print_tally(rt, Some("texture"), verdicts.textures.as_slice())?;
-    let views = print_tally(rt, Some("view"), verdicts.views.as_slice())?;
+    let textures = print_tally(
+        rt,
+        Some("texture"),
+        LAST_TEXTURE_REFUSAL,
+        verdicts.textures.as_slice(),
+    )?;
+    let views = print_tally(
+        rt,
+        Some("view"),
+        LAST_VIEW_REFUSAL,
+        verdicts.views.as_slice(),
+    )?;
     if textures > 0 || views > 0 {
         return Err(ReplayError::Differing { textures, views }.into());
     }
