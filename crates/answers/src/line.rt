@@ -33,7 +33,7 @@ pub trait Answer: Sized + Drop {
 }
 
 // A request, and whether the implementation accepted it.
-#[derive(Drop)]
+#[derive(Clone, Copy, Drop)]
 pub struct StoredAnswer<R> {
     pub request: R,
     pub accepted: bool,
